@@ -1,0 +1,6 @@
+pub mod Every
+pub mod Pairwise
+pub mod Totals
+pub mod Parts
+pub mod Within
+pub mod Widest

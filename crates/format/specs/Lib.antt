@@ -1,0 +1,4 @@
+pub mod Read
+pub mod Format
+pub mod Written
+pub mod Ceases

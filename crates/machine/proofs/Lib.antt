@@ -1,0 +1,15 @@
+pub mod Words
+pub mod Every
+pub mod Facts
+pub mod Rows
+pub mod Ready
+pub mod Values
+pub mod Exprs
+pub mod Small
+pub mod Writes
+pub mod Same
+pub mod Matching
+pub mod Cases
+pub mod Performing
+pub mod Accepting
+pub mod Loading

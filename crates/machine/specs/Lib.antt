@@ -1,0 +1,4 @@
+pub mod Row
+pub mod Ready
+pub mod Sound
+pub mod View

@@ -1,0 +1,4 @@
+pub mod Chain
+pub mod Numbers
+pub mod Skimming
+pub mod Trees
