@@ -32,7 +32,9 @@ pub impl fmt::Display for Fault as FaultDisplay {
         match self {
             Fault::Limits => f.write_str("the parser is beyond its limits"),
             Fault::Names => f.write_str("a header or a state that is named is not there"),
-            Fault::Widths => f.write_str("a slice, an assigned value or a pattern has a wrong width"),
+            Fault::Widths => f.write_str(
+                "a slice, an assigned value or a pattern has a wrong width",
+            ),
             Fault::TakesNothing => f.write_str("a state takes no bits"),
             Fault::TakesTooMuch => f.write_str("a state takes too many bits"),
         }

@@ -1,6 +1,5 @@
 // Is a parser within its limits: how many headers, bits, states and parts it has, and how deep its expressions are.
 ghost use mathlib.Core.Path.{_≡_};
-ghost use Prim.Native.Nat.{ℕ};
 ghost use lib.Dec.{ltb};
 ghost use mathlib.Core.List.{map};
 ghost use Rattle.model.specs.Refusal.{parts-case, parts-expr, parts-op, parts-pattern, parts-state};
@@ -19,6 +18,7 @@ use syntax::Parser;
 use syntax::Pattern;
 use syntax::State;
 
+// What a parser may have at most.
 const HEADERS: usize = 64;
 
 const HEADER_BITS: usize = 4096;
@@ -26,6 +26,7 @@ const HEADER_BITS: usize = 4096;
 const STATES: usize = 64;
 
 const PARTS: usize = 16384;
+
 // How many expressions may stand around one.
 const DEPTH: u8 = 15;
 
@@ -44,7 +45,7 @@ pub(crate) fn count_parts(parser: &Parser) -> Option<usize>
 fn header_bits(sizes: &[u16]) -> Option<usize>
     ensures { λ r. ⌜ Measured (headers-within (now (sizes .entry))) (sum (now (sizes .entry))) r ⌝ }
 {
-    if !each(&Positive, sizes) || sizes.len() > HEADERS {
+    if sizes.len() > HEADERS || !each(&Positive, sizes) {
         return None;
     }
     let left = pay_all(&Itself, sizes, HEADER_BITS)?;

@@ -1,11 +1,7 @@
 // How many bits states take: each one at least, and none too many.
 ghost use mathlib.Core.Path.{_≡_};
-ghost use mathlib.Core.Bool.{Bool};
-ghost use mathlib.Core.List.{map};
-ghost use Prim.Native.Nat.{ℕ};
 ghost use denote.Ref.{now};
 ghost use lib.Dec.{leb, ltb};
-ghost use Rattle.std.specs.Of.Vec.{vec-items};
 ghost use Rattle.model.specs.Parser.{ops-width};
 ghost use Rattle.model.specs.Refusal.{narrow, widest};
 ghost use Rattle.model.specs.Refusal.{taking as all-taking};

@@ -1,6 +1,5 @@
 // Has each part of a parser its width: slices lie within, what is assigned fills its header, and a pattern is as wide as its key.
 ghost use mathlib.Core.Path.{_≡_};
-ghost use mathlib.Core.Bool.{Bool};
 ghost use Prim.Native.Nat.{_<_};
 ghost use denote.Ref.{now};
 ghost use lib.ListN.{getD};

@@ -4,7 +4,7 @@ use Rattle.checks.proofs.Pairwise.{pairwise-uneven, pairwise-more, pairwise-fa
 use Rattle.checks.proofs.pairs.pairs.Needs as need
 
 pub returns-then-lefts-rights : need.returns-then-lefts-rights
-returns-then-lefts-rights g c = sym (pairwise-uneven (g .T·Pair .agrees (c .args .test .now)) (c .args .lefts .now) (c .args .rights .now) (c .if-lefts-rights .taken))
+returns-then-lefts-rights g c = sym (pairwise-uneven (g .T·Pair .agrees (c .args .test .now)) (c .args .lefts .now) (c .args .rights .now) (λ same. omega (arith, same, c .if-lefts-rights .taken)))
 
 pub returns-then-not-pair : need.returns-then-not-pair
 returns-then-not-pair g c =

@@ -1,5 +1,5 @@
 use mathlib.Core.Path.{_≡_}
-use lib.ListN.{length, drop}
+use lib.ListN.{drop}
 use Rattle.checks.specs.Paired.{pairwise}
 use Rattle.checks.proofs.pairs.pairs.Given as given
 

@@ -1,5 +1,4 @@
 use mathlib.Core.Path.{sym, ap, _∙_}
-use Prim.Native.Nat.{ℕ}
 use lib.Dec.{leb}
 use Rattle.checks.proofs.Parts.{widest-of}
 use Rattle.checks.proofs.Widest.{most-more, most-wide, most-all}
