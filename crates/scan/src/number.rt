@@ -1,12 +1,13 @@
 // Numbers and rows of bits, at an offset of the bytes.
 ghost use mathlib.Core.Path.{_≡_};
+ghost use mathlib.Core.Bool.{true};
 ghost use mathlib.Core.List.{List};
 ghost use Prim.Native.Nat.{ℕ, _+_, _*_, _-_, _^_, _<_, _≤_};
 ghost use lib.ListN.{length, getD, take, drop};
 ghost use Rattle.std.specs.Vec.{made};
 ghost use Rattle.std.specs.Of.Vec.{vec-items};
 ghost use Rattle.format.specs.Read.{read-number, read-row};
-ghost use Rattle.std.specs.Results.{Cases};
+ghost use Rattle.std.specs.Results.{Cases, isOk};
 ghost use Rattle.scan.specs.Reads.{Took, Failed, Reads, Is};
 use crate::fault::Fault;
 use crate::fault::FaultFromAlloc;
@@ -18,6 +19,7 @@ pub fn read_number(bytes: &[u8], at: usize, width: usize) -> Result<(u64, usize)
     requires narrow { ⌜ width ≤ 8 ⌝ }
     ensures reads { λ r. ⌜ Reads (read-number width (drop at (now (bytes .entry)))) (Is (λ n. n)) (now (bytes .entry)) r ⌝ }
     ensures bound { λ r. ⌜ made r (λ p. (p .0 < 256 ^ width) × (p .1 ≡ at + width)) ⌝ }
+    ensures succeeds { λ r. ⌜ (at + width ≤ length (now (bytes .entry)) → isOk r ≡ true) ⌝ }
 {
     if bytes.len() - at < width {
         return Err(Fault::Garbled(bytes.len()));

@@ -11,7 +11,7 @@ use Rattle.scan.specs.Reads.{ceased, Is}
 use Rattle.scan.proofs.number.read_number.Needs as need
 
 pub returns-then-bytes-at : need.returns-then-bytes-at
-returns-then-bytes-at c = record { reads = here-failed _ (ceased (too-few (c .args .bytes .now) (c .args .at) (c .args .width) (c .if-bytes-at .taken))); bound = tt }
+returns-then-bytes-at c = record { reads = here-failed _ (ceased (too-few (c .args .bytes .now) (c .args .at) (c .args .width) (c .if-bytes-at .taken))); bound = tt; succeeds = λ l. absurd (omega arith) }
 
 -- the digits, how many were gone through, and what that bounds
 part-is : (bytes : List ℕ) (at n : ℕ) → n ≤ length bytes - at → length (take (at + n - at) (drop at bytes)) ≡ n
@@ -54,4 +54,5 @@ returns c =
     record {
       reads = then-took _ t (took (Is (λ n. n)) (big-endian 0 (t .value)) (t .within) (value ∙ ap (big-endian 0) (t .meant)));
       bound = (subst (λ k. c .loop-digit .n < 256 ^ k) all (c .loop-digit .inv .1), refl);
+      succeeds = λ _. refl;
     }
