@@ -1,1 +1,4 @@
+pub mod Appends
+pub mod Front
+pub mod Printed
 pub mod View

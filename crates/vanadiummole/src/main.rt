@@ -1,0 +1,75 @@
+// Reads a file of requests, and prints a line for each answer.
+mod hex;
+mod options;
+mod room;
+
+use answer::answer;
+use hex::hex;
+use options::Options;
+use reply::line;
+use reply::write_answer;
+use room::lend;
+use std::alloc::AllocError;
+use std::alloc::Global;
+use std::error::AnyError;
+use std::fs;
+use std::io::Read;
+use wire::next_record;
+use wire::wanted_room;
+
+// The line that is printed for a request.
+fn answer_line(heap: Global, request: &[u8], options: &Options) -> Result<String, AllocError> {
+    let wanted = wanted_room(request).min(options.most_room);
+    let mut room = lend(heap, wanted);
+    let answer = answer(heap, request, room.as_mut_slice())?;
+    if options.hex {
+        let bytes = write_answer(heap, &answer, room.as_slice())?;
+        return hex(heap, bytes.as_slice());
+    }
+    line(heap, &answer, room.as_slice())
+}
+
+// A line for each request of a file, as soon as it is answered.
+fn answer_all(rt: &LibcRuntime, file: &[u8], options: &Options) -> Result<(), AnyError> {
+    let mut at = 0;
+    while let Some(record) = next_record(file, at) {
+        let request = &file[record.start..record.end];
+        let Ok(line) = answer_line(rt.alloc(), request, options) else {
+            return Err(format!(rt.alloc(), "byte {at}: not enough memory for this request")?.into());
+        };
+        rt.println(line)?;
+        at = record.end;
+    }
+    Ok(())
+}
+
+// The whole file, or all of standard input.
+fn read_file(rt: &LibcRuntime, name: &String) -> Result<Vec<u8>, AnyError> {
+    if name.as_str() == "-" {
+        let mut bytes = Vec::new(rt.alloc());
+        rt.stdin().read_to_end(&mut bytes)?;
+        return Ok(bytes);
+    }
+    match fs::read(rt, name.as_str()) {
+        Ok(bytes) => Ok(bytes),
+        Err(e) => Err(format!(rt.alloc(), "{name}: {e}")?.into()),
+    }
+}
+
+fn run(rt: &LibcRuntime) -> Result<(), AnyError> {
+    let options = Options::read(rt)?;
+    if options.help {
+        rt.print(options::HELP)?;
+        return Ok(());
+    }
+    let file = read_file(rt, &options.file)?;
+    answer_all(rt, file.as_slice(), &options)
+}
+
+fn main(rt: LibcRuntime) -> Result<(), AnyError> {
+    let done = run(&rt);
+    if let Err(e) = &done {
+        eprintln!(rt, "vanadiummole: {e}")?;
+    }
+    done
+}

@@ -1,0 +1,18 @@
+// Room to lend.
+ghost use Prim.Native.Nat.{_≤_};
+ghost use Rattle.std.specs.Of.Vec.{vec-len};
+use std::alloc::Global;
+
+// As many numbers as are wanted, or as can be had: half of them, a quarter, ..
+pub(crate) fn lend(heap: Global, wanted: u64) -> Vec<u64>
+    ensures { λ r. ⌜ vec-len r ≤ wanted ⌝ }
+{
+    let mut size = wanted as usize;
+    while size > 0 {
+        if let Ok(room) = vec![in heap; 0; size] {
+            return room;
+        }
+        size /= 2;
+    }
+    Vec::new(heap)
+}
