@@ -2,12 +2,12 @@
 # Holds the program's answers to the reference's, on the examples and on random requests.
 #
 #     tests/run.sh [--hex] PROGRAM [N]     --hex: the answers' bytes too, by PROGRAM --hex FILE; N: how many random requests
-#     tests/run.sh --write                 writes anew what is kept: examples/*.expected, and first.bin of the program's crate
+#     tests/run.sh --write                 writes anew what is kept: examples/*.expected, and data/ and stdout of the program's crate
 #
 # Ends with 0 if all are the same.
 set -u
 here=$(cd "$(dirname "$0")" && pwd)
-first=$here/../crates/vanadiummole/data/first.bin
+crate=$here/../crates/vanadiummole
 made=$(mktemp -d)
 trap 'rm -r "$made"' EXIT
 
@@ -70,11 +70,15 @@ for name in first refusals large; do
     same "$name.expected" "$here/examples/$name.expected" "$made/$name.lines"
     ask "$name" "$made/$name.lines"
 done
+# the program's crate keeps two of them, which the gate runs one after the other
 if [ -n "$write" ]; then
-    cp "$made/first.bin" "$first"
+    cp "$made/first.bin" "$made/refusals.bin" "$crate/data/"
+    cat "$made/first.lines" "$made/refusals.lines" >"$crate/stdout"
     exit $failed
 fi
-cmp "$made/first.bin" "$first" || failed=1
+for name in first refusals; do
+    cmp "$made/$name.bin" "$crate/data/$name.bin" || failed=1
+done
 python3 "$here/random_requests.py" "$count" "$made/random.bin" >"$made/random.lines" || exit 1
 ask random "$made/random.lines"
 [ $failed = 0 ] && echo "all as expected"

@@ -1,4 +1,3 @@
-pub mod Every
 pub mod Pairwise
 pub mod Totals
 pub mod Parts

@@ -12,7 +12,7 @@ use Rattle.syntax.specs.View.{op-of, expr-of, pattern-of, case-of, target-of, s
 use Rattle.syntax.specs.declared.ast.State.{State}
 use Rattle.syntax.specs.declared.ast.Parser.{Parser}
 use Rattle.checks.specs.Paired.{pairwise, sized-pattern}
-use Rattle.checks.proofs.Every.{every-map, every-same}
+use Rattle.model.proofs.Every.{every-map, every-same}
 use Rattle.checks.proofs.Pairwise.{sized-patterns-of}
 
 and-assoc : (a b c : Bool) → ((a && b) && c) ≡ (a && (b && c))

@@ -13,7 +13,7 @@ use Rattle.syntax.specs.View.{state-of, parser-of}
 use Rattle.syntax.specs.declared.ast.State.{State}
 use Rattle.syntax.specs.declared.ast.Parser.{Parser}
 use Rattle.checks.specs.Measured.{headers-within, states-within}
-use Rattle.checks.proofs.Every.{every-map}
+use Rattle.model.proofs.Every.{every-map}
 use Rattle.checks.proofs.Totals.{total-map}
 
 -- an expression is a part itself

@@ -9,7 +9,7 @@ use Rattle.std.proofs.shelf.Lists.{drop-all}
 use Rattle.model.specs.Parser as M
 use Rattle.syntax.specs.View.{pattern-of, case-of, target-of}
 use Rattle.syntax.specs.declared.ast.Case.{Case}
-use Rattle.machine.proofs.Every.{drop-read}
+use Rattle.model.proofs.Every.{drop-read}
 
 -- none of the first i cases matches, so those that are ahead decide
 module _ (s : M.Store) (keys : List M.Expr) (t : M.Target) (cases : List Case) where

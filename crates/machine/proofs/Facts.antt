@@ -16,7 +16,7 @@ use Rattle.syntax.specs.View.{state-of, parser-of}
 use Rattle.syntax.specs.declared.ast.State.{State as Read}
 use Rattle.syntax.specs.declared.checked.Checked.{Checked}
 use Rattle.machine.specs.Sound.{Sound}
-use Rattle.machine.proofs.Every.{every-at}
+use Rattle.model.proofs.Every.{every-at}
 
 kept : (b : Bool) (x n : ℕ) → 0 < n → cond b x n ≡ 0 → (b ≡ true) × (x ≡ 0)
 kept true x n l e = (refl, e)

@@ -1,5 +1,4 @@
 pub mod Words
-pub mod Every
 pub mod Facts
 pub mod Rows
 pub mod Ready

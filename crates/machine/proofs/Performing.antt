@@ -13,7 +13,7 @@ use Rattle.syntax.specs.View.{expr-of, op-of}
 use Rattle.syntax.specs.declared.ast.Expr.{Expr}
 use Rattle.syntax.specs.declared.ast.Op.{Op}
 use Rattle.syntax.specs.declared.ast.Op.the-variants.{Extract, Assign}
-use Rattle.machine.proofs.Every.{drop-read, every-read}
+use Rattle.model.proofs.Every.{drop-read, every-read}
 
 -- the ops that are ahead lead to the same end, and have the bits that they take
 pub record Going (ns : List ℕ) (end s : M.Store) (ops : List Op) (bs : List ℕ) (i at : ℕ) : Type 0 where

@@ -15,7 +15,7 @@ use Rattle.syntax.specs.declared.ast.Expr.{Expr}
 use Rattle.syntax.specs.declared.ast.Op.{Op}
 use Rattle.syntax.specs.declared.ast.Op.the-variants.{Extract, Assign}
 use Rattle.machine.specs.Ready.{starts-from}
-use Rattle.machine.proofs.Every.{drop-read, every-read}
+use Rattle.model.proofs.Every.{drop-read, every-read}
 
 pub length-starts : (k : ℕ) (ns : List ℕ) → length (starts-from k ns) ≡ length ns
 length-starts k [] = refl

@@ -65,9 +65,9 @@ pub too-deep : (bytes : List ℕ) (at : ℕ) {tag n : ℕ} → Took (read-number
     → (v : Expr) (rest : List ℕ) → read-expr (drop at bytes) ≡ got v rest → shallow-expr v 0 ≡ false
 too-deep bytes at {tag} {n} t which v rest e =
     let whole : (k : ℕ) → tag ≡ k → getD (expr-choices read-expr (drop n bytes)) k (failed (drop at bytes)) ≡ got v rest =
-        λ k is.
-        sym (ap (λ s. bind s (λ v rest. getD (expr-choices read-expr rest) v (failed (drop at bytes)))) (t .reads) ∙ ap (λ v. getD (expr-choices read-expr (drop n bytes)) v (failed (drop at bytes))) (sym (t .meant) ∙ is))
-        ∙ sym (read-expr-step (drop at bytes)) ∙ e in
+    λ k is.
+    sym (ap (λ s. bind s (λ v rest. getD (expr-choices read-expr rest) v (failed (drop at bytes)))) (t .reads) ∙ ap (λ v. getD (expr-choices read-expr (drop n bytes)) v (failed (drop at bytes))) (sym (t .meant) ∙ is))
+    ∙ sym (read-expr-step (drop at bytes)) ∙ e in
     ⊎-elim (λ is. is-slice (read-number 2 (drop n bytes)) v rest (whole 2 is)) (λ is. is-join (read-expr (drop n bytes)) v rest (whole 3 is)) which
 
 -- what was skimmed is too deep

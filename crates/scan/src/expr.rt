@@ -14,8 +14,8 @@ use crate::fault::Fault;
 use crate::fault::FaultFromAlloc;
 use crate::number::find_row;
 use crate::number::read_row;
-use crate::number::read_u16;
 use crate::number::read_u8;
+use crate::number::read_u16;
 use std::alloc::AllocError;
 use std::alloc::Global;
 use syntax::Expr;
@@ -81,7 +81,12 @@ fn join(heap: Global, left: Option<Expr>, right: Option<Expr>) -> Result<Option<
 }
 
 // An expression with at most `depth` more below it in one another; none is kept where there are more.
-pub fn read_expr(heap: Global, bytes: &[u8], at: usize, depth: u8) -> Result<(Option<Expr>, usize), Fault>
+pub fn read_expr(
+    heap: Global,
+    bytes: &[u8],
+    at: usize,
+    depth: u8,
+) -> Result<(Option<Expr>, usize), Fault>
     requires within { ⌜ at ≤ length (now bytes) ⌝ }
     ensures { λ r. ⌜ Reads (read-expr (drop at (now (bytes .entry)))) (Within expr-of (λ e. shallow-expr e depth)) (now (bytes .entry)) r ⌝ }
 {

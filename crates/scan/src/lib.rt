@@ -9,5 +9,5 @@ pub use fault::FaultFromAlloc;
 pub use fault::FaultFromRefused;
 pub use number::read_number;
 pub use number::read_row;
-pub use number::read_u16;
 pub use number::read_u8;
+pub use number::read_u16;

@@ -66,7 +66,12 @@ pub fn find_row(bytes: &[u8], at: usize, width: usize) -> Result<(usize, usize),
 }
 
 // A row of bits, one to a byte, after how many there are as a number of so many bytes.
-pub fn read_row(heap: Global, bytes: &[u8], at: usize, width: usize) -> Result<(Vec<u8>, usize), Fault>
+pub fn read_row(
+    heap: Global,
+    bytes: &[u8],
+    at: usize,
+    width: usize,
+) -> Result<(Vec<u8>, usize), Fault>
     requires within { ⌜ at ≤ length (now bytes) ⌝ }
     requires narrow { ⌜ width ≤ 8 ⌝ }
     ensures { λ r. ⌜ Reads (read-row width (drop at (now (bytes .entry)))) (Is vec-items) (now (bytes .entry)) r ⌝ }

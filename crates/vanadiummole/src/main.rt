@@ -1,4 +1,4 @@
-// Reads a file of requests, and prints a line for each answer.
+// Reads files of requests, and prints a line for each answer.
 mod hex;
 mod options;
 mod room;
@@ -30,12 +30,17 @@ fn answer_line(heap: Global, request: &[u8], options: &Options) -> Result<String
 }
 
 // A line for each request of a file, as soon as it is answered.
-fn answer_all(rt: &LibcRuntime, file: &[u8], options: &Options) -> Result<(), AnyError> {
+fn answer_all(
+    rt: &LibcRuntime,
+    name: &String,
+    file: &[u8],
+    options: &Options,
+) -> Result<(), AnyError> {
     let mut at = 0;
     while let Some(record) = next_record(file, at) {
         let request = &file[record.start..record.end];
         let Ok(line) = answer_line(rt.alloc(), request, options) else {
-            return Err(format!(rt.alloc(), "byte {at}: not enough memory for this request")?.into());
+            return Err(format!(rt.alloc(), "{name}: byte {at}: not enough memory")?.into());
         };
         rt.println(line)?;
         at = record.end;
@@ -62,8 +67,11 @@ fn run(rt: &LibcRuntime) -> Result<(), AnyError> {
         rt.print(options::HELP)?;
         return Ok(());
     }
-    let file = read_file(rt, &options.file)?;
-    answer_all(rt, file.as_slice(), &options)
+    for name in options.files.iter() {
+        let file = read_file(rt, name)?;
+        answer_all(rt, name, file.as_slice(), &options)?;
+    }
+    Ok(())
 }
 
 fn main(rt: LibcRuntime) -> Result<(), AnyError> {

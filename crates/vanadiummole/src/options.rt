@@ -5,10 +5,14 @@ use std::error::AnyError;
 // As much as most machines have to spare: 128 MiB.
 const MOST_ROOM: u64 = 16_777_216;
 
-pub const HELP: &'static str = "\
-usage: vanadiummole [--hex] [--most-room N] [FILE]
+const NO_NUMBER: &'static str = "--most-room wants a number of at most 64 bits";
 
-Reads a file of requests (standard input for '-' or none) and prints a line for each answer, in order:
+const NO_OPTION: &'static str = "there is no such option: see --help";
+
+pub const HELP: &'static str = "\
+usage: vanadiummole [--hex] [--most-room N] [FILE..]
+
+Reads files of requests (standard input for '-' or none) and prints a line for each answer, in order:
 
   refused NUMBER at OFFSET
   yes | no
@@ -16,7 +20,7 @@ Reads a file of requests (standard input for '-' or none) and prints a line for 
   unlike first=BITS,BITS second=BITS message=BITS work=N room=N
   neither work=N room=N
 
-A request is a length of four bytes, highest first, and then so many bytes (docs/FORMAT.md). Where the file
+A request is a length of four bytes, highest first, and then so many bytes (docs/FORMAT.md). Where a file
 ends inside a request, the bytes that are there are the last one. '-' stands for no headers, or an empty message.
 Comparing is not done yet: it is refused by 7.
 
@@ -32,7 +36,7 @@ A file that can't be read, or want of memory, is told on standard error, with st
 
 #[derive(Drop)]
 pub struct Options {
-    pub file: String,
+    pub files: Vec<String>,
     pub hex: bool,
     pub help: bool,
     pub most_room: u64,
@@ -41,16 +45,18 @@ pub struct Options {
 impl Options {
     pub(crate) fn read(rt: &LibcRuntime) -> Result<Options, AnyError> {
         let mut options = Options {
-            file: String::from_str(rt.alloc(), "-")?,
+            files: Vec::new(rt.alloc()),
             hex: false,
             help: false,
             most_room: MOST_ROOM,
         };
-        let mut named = false;
         let mut wants_number = false;
         for arg in env::args(rt)?.skip(1) {
             if wants_number {
-                options.most_room = arg.as_str().parse::<u64>()?;
+                let Ok(most) = arg.as_str().parse::<u64>() else {
+                    return Err(NO_NUMBER.into());
+                };
+                options.most_room = most;
                 wants_number = false;
                 continue;
             }
@@ -58,15 +64,15 @@ impl Options {
                 "--hex" => options.hex = true,
                 "--help" => options.help = true,
                 "--most-room" => wants_number = true,
-                _ if named => return Err("more than one file".into()),
-                _ => {
-                    options.file = arg;
-                    named = true;
-                }
+                other if other.starts_with("--") => return Err(NO_OPTION.into()),
+                _ => options.files.push(arg)?,
             }
         }
         if wants_number {
-            return Err("--most-room wants a number".into());
+            return Err(NO_NUMBER.into());
+        }
+        if options.files.is_empty() {
+            options.files.push(String::from_str(rt.alloc(), "-")?)?;
         }
         Ok(options)
     }

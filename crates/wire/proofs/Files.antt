@@ -17,7 +17,7 @@ pub number-is : (bs : List ℕ) (at k : ℕ) {n next : ℕ} → Took (read-numbe
 number-is bs at k {n} {next} t l =
     let ds : List ℕ = drop at bs in
     let whole : read-number k ds ≡ got (big-endian 0 (take k ds)) (drop k ds) =
-        ap (λ b. bind (cond b (got (take k ds) (drop k ds)) (failed [])) (λ xs r. got (big-endian 0 xs) r)) (le-leb k (length ds) (omega (arith, length-drop at bs))) in
+    ap (λ b. bind (cond b (got (take k ds) (drop k ds)) (failed [])) (λ xs r. got (big-endian 0 xs) r)) (le-leb k (length ds) (omega (arith, length-drop at bs))) in
     let both : got (t .value) (drop next bs) ≡ got (big-endian 0 (take k ds)) (drop k ds) = sym (t .reads) ∙ whole in
     t .meant ∙ same both
   where

@@ -1,6 +1,6 @@
 -- Reading a list: what was read so far, and what is left.
 use mathlib.Core.Path.{_≡_, refl, sym, ap, subst, _∙_}
-use mathlib.Core.Bool.{Bool, true, false, _&&_}
+use mathlib.Core.Bool.{Bool}
 use mathlib.Core.List.{List, [], _∷_, _++_, map}
 use Prim.Native.Nat.{ℕ, zero, suc, _+_, _-_, _≤_, _<_}
 use native.Mathlib.Omega.{arith}
@@ -12,8 +12,7 @@ use Rattle.std.specs.declared.option.Option.{Option}
 use Rattle.std.specs.declared.option.Option.the-variants.{Some, None}
 use Rattle.std.specs.declared.vec.Vec.{Vec}
 use Rattle.std.proofs.shelf.Lists.{append-assoc, append-nil, map-push}
-use Rattle.std.proofs.shelf.Tests.{and-left, and-right, and-cases}
-use Rattle.model.specs.Refusal.{every}
+use Rattle.model.proofs.Every.{every-front, every-last}
 use Rattle.format.specs.Read.{Read, got, failed, bind, read-number, read-many, read-counted}
 use Rattle.scan.specs.Reads.{Took, Ceased, Failed, ceased, no-memory, Is, Within}
 use Rattle.scan.proofs.Chain.{then-took, then-failed}
@@ -76,18 +75,6 @@ pub each-more : {X Y : Type 0} (f : X → Y) (xs ys : List X) (x : X) (zs : List
 each-more f xs ys x zs z e p q = ap (map f) p ∙ map-push f xs x ∙ ap (λ l. l ++ f x ∷ []) e ∙ ap (λ y. zs ++ y ∷ []) q
 
 -- one more element of a list that may not have been kept
-and-both : (b x y : Bool) → (x ≡ false → y ≡ false) → (b && x) ≡ false → (b && y) ≡ false
-and-both true x y f e = f e
-and-both false x y f e = refl
-
-every-front : {Y : Type 0} (sh : Y → Bool) (zs : List Y) (z : Y) → every sh zs ≡ false → every sh (zs ++ z ∷ []) ≡ false
-every-front sh [] z e = absurd (let q : _≡_ {A = ℕ} 0 1 = cc in omega arith)
-every-front sh (y ∷ zs) z e = and-both (sh y) (every sh zs) (every sh (zs ++ z ∷ [])) (every-front sh zs z) e
-
-every-last : {Y : Type 0} (sh : Y → Bool) (zs : List Y) (z : Y) → sh z ≡ false → every sh (zs ++ z ∷ []) ≡ false
-every-last sh [] z e = and-left (sh z) true e
-every-last sh (y ∷ zs) z e = and-right (sh y) (every sh (zs ++ z ∷ [])) (every-last sh zs z e)
-
 pub kept-more : {X Y : Type 0} (f : X → Y) (sh : Y → Bool) (list : Option (Vec X Global)) (item : Option X) (o : Option (Vec X Global)) (zs : List Y) (z : Y)
     → EachWithin f sh list zs → Within f sh item z → mapped vec-items o ≡ appended (mapped vec-items list) item → EachWithin f sh o (zs ++ z ∷ [])
 kept-more f sh (Some v) (Some x) (Some w) zs z e q p = let same : vec-items w ≡ vec-items v ++ x ∷ [] = cc in each-more f (vec-items v) (vec-items w) x zs z e same q

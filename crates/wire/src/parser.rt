@@ -19,8 +19,8 @@ use scan::FaultFromAlloc;
 use scan::FaultFromRefused;
 use scan::read_expr;
 use scan::read_row;
-use scan::read_u16;
 use scan::read_u8;
+use scan::read_u16;
 use std::alloc::Global;
 use syntax::Case;
 use syntax::Expr;
@@ -137,7 +137,12 @@ fn read_ops(heap: Global, bytes: &[u8], at: usize) -> Result<(Option<Vec<Op>>, u
 }
 
 // A state of which all was kept.
-fn state(ops: Option<Vec<Op>>, keys: Option<Vec<Expr>>, cases: Vec<Case>, otherwise: Target) -> Option<State>
+fn state(
+    ops: Option<Vec<Op>>,
+    keys: Option<Vec<Expr>>,
+    cases: Vec<Case>,
+    otherwise: Target,
+) -> Option<State>
     ensures { λ r. ⌜ ((os : List M.Op) (es : List M.Expr) → EachWithin op-of shallow-op ops os → EachWithin expr-of shallow keys es → Within state-of shallow-state r (record { ops = os; keys = es; cases = map case-of (vec-items cases); otherwise = target-of otherwise })) ⌝ }
 {
     let (ops, keys) = (ops?, keys?);

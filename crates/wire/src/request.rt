@@ -12,8 +12,8 @@ use crate::parser::read_store;
 use scan::Fault;
 use scan::read_number;
 use scan::read_row;
-use scan::read_u16;
 use scan::read_u8;
+use scan::read_u16;
 use std::alloc::Global;
 use syntax::Parser;
 

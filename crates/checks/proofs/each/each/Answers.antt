@@ -1,5 +1,5 @@
 use mathlib.Core.Path.{sym, _∙_}
-use Rattle.checks.proofs.Every.{every-more, every-fails, every-all}
+use Rattle.model.proofs.Every.{every-more, every-fails, every-all}
 use Rattle.checks.proofs.each.each.Needs as need
 
 pub returns-then-not-test : need.returns-then-not-test

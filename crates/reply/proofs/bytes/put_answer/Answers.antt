@@ -12,6 +12,16 @@ use Rattle.reply.proofs.Numbers.{bool-byte}
 use Rattle.reply.proofs.Parts.{difference-drop}
 use Rattle.reply.proofs.bytes.put_answer.Needs as need
 
+pub returns-in-Continue-put-number-2 : need.returns-in-Continue-put-number-2
+returns-in-Continue-put-number-2 c =
+    let n : ℕ = c .in-Refused .number in
+    let k : ℕ = c .in-Refused .offset in
+    made-weaker (c .put-number-in-Refused-2 .result) _ _
+    (λ _ q. tagged 0 (λ rest. number 1 n (number 8 k rest)) (vec-items (c .args .out .now)) (vec-items (c .put-number .last .out)) (vec-items (c .put-number-in-Refused-2 .last .out)) _ (c .in-Continue-put-number .ensures tt)
+    (both (number 1 n) (number 8 k) (vec-items (c .put-number .last .out)) (vec-items (c .put-number-in-Refused .last .out)) (vec-items (c .put-number-in-Refused-2 .last .out)) (c .in-Continue-put-number-2 .ensures tt) q)
+    (ap (λ x. answer (answer-of (c .args .room .now) x)) (sym (c .in-Refused .is))))
+    (c .put-number-in-Refused-2 .ensures)
+
 pub returns-in-Continue-put-number-3 : need.returns-in-Continue-put-number-3
 returns-in-Continue-put-number-3 c =
     made-weaker (c .put-number-in-Verdict-2 .result) _ _

@@ -9,6 +9,12 @@ use Rattle.reply.proofs.text.line.Needs as need
 pub returns-in-Alike : need.returns-in-Alike
 returns-in-Alike c = made-weaker (c .format-in-Alike .result) _ _ (λ s h. h ∙ ap (λ x. line-of (answer-of (c .args .room .now) x)) (sym (c .in-Alike .is))) (c .format-in-Alike .ensures .made)
 
+pub returns-in-Refused : need.returns-in-Refused
+returns-in-Refused c = made-weaker (c .format .result) _ _ (λ s h. h ∙ ap (λ x. line-of (answer-of (c .args .room .now) x)) (sym (c .in-Refused .is))) (c .format .ensures .made)
+
+pub returns-in-Neither : need.returns-in-Neither
+returns-in-Neither c = made-weaker (c .format-in-Neither .result) _ _ (λ s h. h ∙ ap (λ x. line-of (answer-of (c .args .room .now) x)) (sym (c .in-Neither .is))) (c .format-in-Neither .ensures .made)
+
 pub returns-in-Continue-message : need.returns-in-Continue-message
 returns-in-Continue-message c =
     let first = c .in-Continue-first .ensures tt in

@@ -9,7 +9,7 @@ use Rattle.model.specs.Parser.{run-ops}
 use Rattle.syntax.specs.View.{target-of}
 use Rattle.machine.specs.View.{contents, parser-in, sizes-in, state-in}
 use Rattle.machine.proofs.Accepting.{at-first, known, stops, takes-some, goes-on, at-accept, at-reject}
-use Rattle.machine.proofs.Every.{every-drop, every-take}
+use Rattle.model.proofs.Every.{every-drop, every-take}
 use Rattle.machine.proofs.machine.Machine.accepts.Needs as need
 
 pub loop-target-holds : need.loop-target-holds

@@ -9,7 +9,7 @@ use Rattle.std.proofs.shelf.Lists.{take-rest, length-drop}
 use Rattle.model.specs.Refusal.{are-bits, every, named-op, sized-op}
 use Rattle.syntax.specs.View.{op-of}
 use Rattle.machine.specs.View.{contents, sizes-in}
-use Rattle.machine.proofs.Every.{every-drop}
+use Rattle.model.proofs.Every.{every-drop}
 use Rattle.machine.proofs.Performing.{extract-room, extracted, assign-fits, assigned, all-done}
 use Rattle.machine.proofs.Ready.{extract-known}
 use Rattle.machine.proofs.machine.Machine.perform.Needs as need

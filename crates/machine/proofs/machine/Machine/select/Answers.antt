@@ -10,7 +10,7 @@ use Rattle.model.specs.Parser as M
 use Rattle.model.specs.Refusal.{every, named-expr, sized-expr, sized-patterns}
 use Rattle.syntax.specs.View.{expr-of, pattern-of, case-of, target-of}
 use Rattle.machine.specs.View.{contents, sizes-in}
-use Rattle.machine.proofs.Every.{drop-read, every-read}
+use Rattle.model.proofs.Every.{drop-read, every-read}
 use Rattle.machine.proofs.Cases.{taken, passed, none-left}
 use Rattle.machine.proofs.Matching.{as-wide, one-more, passes, passes-any, fails, all-passed, drop-some}
 use Rattle.machine.proofs.machine.Machine.select.Needs as need
