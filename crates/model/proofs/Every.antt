@@ -52,6 +52,10 @@ module _ {X : Type 0} (f : X → Bool) where
   every-take [] e (suc n) = refl
   every-take (x ∷ xs) e (suc n) = let p = and-parts _ _ e in and-from _ _ (p .0) (every-take xs (p .1) n)
 
+  pub every-append : (xs ys : List X) → every f xs ≡ true → every f ys ≡ true → every f (xs ++ ys) ≡ true
+  every-append [] ys a b = b
+  every-append (x ∷ xs) ys a b = let p = and-parts _ _ a in and-from _ _ (p .0) (every-append xs ys (p .1) b)
+
 -- of what was read at i
 pub every-read : {X Y : Type 0} (f : Y → Bool) (g : X → Y) (xs : List X) → every f (map g xs) ≡ true → (i : ℕ) {x : X} → i < length xs → x ≡ getD xs i x → f (g x) ≡ true
 every-read f g [] e i l read = absurd (not-suc-le-zero l)

@@ -1,12 +1,11 @@
 -- Reading one thing after another: what the parts read, the whole reads.
 use mathlib.Core.Path.{_≡_, refl, sym, ap, subst, _∙_}
 use mathlib.Core.List.{List, [], _∷_}
-use Prim.Native.Nat.{ℕ, zero, suc, _≤_}
-use native.Mathlib.Omega.{arith}
+use Prim.Native.Nat.{ℕ, _≤_}
 use lib.ListN.{length, drop, getD}
 use Rattle.std.specs.Results.{ErrBy, Cases}
 use Rattle.std.proofs.shelf.Results.{err-from-errBy}
-use Rattle.std.proofs.shelf.Lists.{drop-all}
+use Rattle.std.proofs.shelf.Lists.{getD-past}
 use Rattle.std.specs.declared.result.Result.{Result}
 use Rattle.std.specs.declared.result.Result.the-variants.{Ok, Err}
 use Rattle.format.specs.Read.{Read, got, failed, bind, read-number, read-tagged}
@@ -47,11 +46,6 @@ module _ {Y : Type 0} (bytes : List ℕ) (at : ℕ) {tag n : ℕ} (choices : Lis
   pub tag-failed : {e : Fault} → Failed (getD (choices (drop n bytes)) k (failed (drop at bytes))) bytes e → Failed (read-tagged choices (drop at bytes)) bytes e
   tag-failed (ceased u) = ceased (record { within = u .within; reads = picked ∙ u .reads })
   tag-failed no-memory = no-memory
-
-getD-past : {Y : Type 0} (xs : List Y) (i : ℕ) (d : Y) → length xs ≤ i → getD xs i d ≡ d
-getD-past [] i d l = refl
-getD-past (x ∷ xs) zero d l = absurd (omega arith)
-getD-past (x ∷ xs) (suc i) d l = getD-past xs i d (omega arith)
 
 -- a tag that isn't there
 pub no-tag : {Y : Type 0} (bytes : List ℕ) (at : ℕ) {tag n : ℕ} (choices : List ℕ → List (Read Y)) → Took (read-number 1 (drop at bytes)) (Is (λ m. m)) bytes tag n → at ≤ length bytes

@@ -1,0 +1,13 @@
+pub mod Machines
+pub mod Leaping
+pub mod Pigeons
+pub mod Short
+pub mod Facts
+pub mod Waiting
+pub mod Stores
+pub mod Good
+pub mod Stepping
+pub mod BitRows
+pub mod Numbering
+pub mod Equivalence
+pub mod Leaps
