@@ -15,6 +15,3 @@ pub use contents::are_bits;
 pub use contents::store_fits;
 pub use fault::Fault;
 pub use right::check;
-
-#[cfg(test)]
-mod tests;

@@ -10,7 +10,7 @@ use Rattle.std.proofs.shelf.Lists.{drop-drop, drop-all, length-drop, take-all}
 use Rattle.std.proofs.shelf.Tests.{le-leb, lt-ltb, eq-eqb}
 use Rattle.format.specs.Read.{Read, got, failed, bind, read-bytes, read-number, big-endian}
 use Rattle.scan.specs.Reads.{Took, Is}
-use Rattle.wire.specs.Records.{record-length, first-request, after-record, Found, room-wanted}
+use Rattle.records.specs.Record.{record-length, first-request, after-record, Found, room-wanted}
 
 -- the number that was read
 pub number-is : (bs : List ℕ) (at k : ℕ) {n next : ℕ} → Took (read-number k (drop at bs)) (Is (λ m. m)) bs n next → at + k ≤ length bs → n ≡ big-endian 0 (take k (drop at bs))

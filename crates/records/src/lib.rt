@@ -3,7 +3,7 @@ ghost use mathlib.Core.Path.{_≡_};
 ghost use Prim.Native.Nat.{ℕ, _≤_, _<_};
 ghost use lib.ListN.{length};
 ghost use Rattle.std.specs.Options.{Cases as BySome};
-ghost use Rattle.wire.specs.Records.{Found, room-wanted};
+ghost use Rattle.records.specs.Record.{Found, room-wanted};
 use scan::read_number;
 
 // The bytes of one request in a file.

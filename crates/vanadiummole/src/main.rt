@@ -14,8 +14,8 @@ use std::alloc::Global;
 use std::error::AnyError;
 use std::fs;
 use std::io::Read;
-use wire::next_record;
-use wire::wanted_room;
+use records::next_record;
+use records::wanted_room;
 
 // The line that is printed for a request.
 fn answer_line(heap: Global, request: &[u8], options: &Options) -> Result<String, AllocError> {

@@ -11,6 +11,7 @@ use Rattle.std.specs.declared.result.Result.{Result}
 use Rattle.std.proofs.shelf.Lists.{drop-all, drop-more, length-drop, length-take-le}
 use Rattle.std.proofs.shelf.Results.{err-from-errBy}
 use Rattle.std.proofs.shelf.Tests.{le-leb, lt-leb}
+use Rattle.model.specs.Parser.{Parser}
 use Rattle.model.specs.Request as M
 use Rattle.model.specs.Request.{garbled, parse, compare}
 use Rattle.format.specs.Read.{Read, got, failed}
@@ -66,3 +67,8 @@ cut-whole bytes l = long bytes l ∙ ap (λ n. too-long (whole n (read-request (
 pub cut-stands : (r : Request) (q : M.Request) → Stands r q → too-long q ≡ garbled 1048576
 cut-stands (Parse r) q s = ap too-long (s .is)
 cut-stands (Compare r) q s = ap too-long (s .is)
+
+-- a request to compare, from its numbers as they were read
+pub same-compare : (p q : Parser) (i i′ j j′ w w′ m m′ : ℕ) → i ≡ i′ → j ≡ j′ → w ≡ w′ → m ≡ m′
+    → compare (record { first = p; second = q; first-state = i′; second-state = j′; work = w′; room = m′ }) ≡ compare (record { first = p; second = q; first-state = i; second-state = j; work = w; room = m })
+same-compare p q i i′ j j′ w w′ m m′ a b c d = cc

@@ -1,12 +1,8 @@
-// Bytes to requests. Read list, then parser, then request; record stands alone.
+// Bytes to requests. Read list, then parser, then request.
 mod list;
 mod parser;
-mod record;
 mod request;
 
-pub use record::Record;
-pub use record::next_record;
-pub use record::wanted_room;
 pub use request::Compare;
 pub use request::Parse;
 pub use request::Request;

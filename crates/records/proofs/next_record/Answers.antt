@@ -5,8 +5,8 @@ use Prim.Native.Nat.{_+_, _<_, _≤_}
 use lib.ListN.{length}
 use Rattle.std.proofs.shelf.Tests.{cases-lt, both-ways}
 use mathlib.Core.Logic.{⊎-elim}
-use Rattle.wire.proofs.Files.{found, found-cut, found-end}
-use Rattle.wire.proofs.record.next_record.Needs as need
+use Rattle.records.proofs.Files.{found, found-cut, found-end}
+use Rattle.records.proofs.next_record.Needs as need
 
 pub returns-in-rest : need.returns-in-rest
 returns-in-rest c =
