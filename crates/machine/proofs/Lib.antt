@@ -3,6 +3,8 @@ pub mod Facts
 pub mod Rows
 pub mod Ready
 pub mod Values
+pub mod Windows
+pub mod Helds
 pub mod Exprs
 pub mod Small
 pub mod Writes

@@ -1,22 +1,18 @@
 -- Bits that are written into a row one after the other, and a header that is written so. Assumes nothing.
 use mathlib.Core.Path.{_≡_, refl, sym, ap, ap₂, subst, _∙_}
 use mathlib.Core.Logic.{⊎-elim}
-use mathlib.Core.List.{List, [], _∷_}
-use Prim.Native.Nat.{ℕ, zero, suc, _+_, _≤_, _<_}
+use mathlib.Core.List.{List, [], _∷_, _++_}
+use Prim.Native.Nat.{ℕ, zero, suc, _+_, _-_, _≤_, _<_, min}
 use native.Mathlib.Nat.{not-suc-le-zero}
 use native.Mathlib.Omega.{arith}
-use lib.ListN.{length, getD, set}
-use Rattle.std.proofs.shelf.Lists.{same-lists, ext-getD}
+use lib.ListN.{length, getD, set, take, drop}
+use Rattle.std.proofs.shelf.Lists.{ext-getD, getD-append-left, getD-append-right, length-append, take-all}
 use Rattle.std.proofs.shelf.Tests.{cases-lt}
 use Rattle.machine.specs.Row.{row-bit, row-part, headers}
 use Rattle.machine.specs.Ready.{starts-from}
+use Rattle.machine.specs.Window.{window, Written, Filled}
 use Rattle.machine.proofs.Rows.{length-part, part-at}
-
--- the first i of bs are written from bit k on: ws was the row before, and vs is it now
-pub record Written (ws vs bs : List ℕ) (k i : ℕ) : Type 0 where
-  pub wrote : (j : ℕ) → j < i → row-bit vs (k + j) ≡ getD bs j 0
-  pub below : (j : ℕ) → j < k → row-bit vs j ≡ row-bit ws j
-  pub above : (j : ℕ) → k + i ≤ j → row-bit vs j ≡ row-bit ws j
+use Rattle.machine.proofs.Windows.{left-over, used, window-is, window-join, length-window}
 
 pub write-none : (ws bs : List ℕ) (k : ℕ) → Written ws ws bs k 0
 write-none ws bs k = record { wrote = λ j l. absurd (not-suc-le-zero l); below = λ j l. refl; above = λ j l. refl }
@@ -29,6 +25,46 @@ write-more {ws} {vs} {us} {bs} {k} {i} w here others =
       below = λ j l. others j (λ e. omega arith) ∙ w .below j l;
       above = λ j l. others j (λ e. omega arith) ∙ w .above j (omega arith);
     }
+
+-- one row after another
+write-join : {ws us vs a b : List ℕ} {k n m : ℕ} → n ≡ length a → Written ws us a k n → Written us vs b (k + n) m → Written ws vs (a ++ b) k (n + m)
+write-join {ws} {us} {vs} {a} {b} {k} {n} {m} long first second =
+    record {
+      wrote = λ j l.
+          ⊎-elim
+          (λ (h : j < n). second .below (k + j) (omega arith) ∙ first .wrote j h ∙ sym (getD-append-left a b 0 j (omega arith)))
+          (λ (h : n ≤ j).
+          let e : k + j ≡ k + n + (j - n) = omega arith in
+          ap (row-bit vs) e ∙ second .wrote (j - n) (omega arith) ∙ sym (getD-append-right a b n j 0 (sym long) h))
+          (cases-lt j n);
+      below = λ j l. second .below j (omega arith) ∙ first .below j l;
+      above = λ j l. second .above j (omega arith) ∙ first .above j (omega arith);
+    }
+
+-- an expression in one piece: f bits of v are passed over, and the next n written
+pub filled-piece : (v : List ℕ) (k most : ℕ) {size f n at : ℕ} {ws vs : List ℕ} → length v ≡ size → f ≡ min k size → n ≡ min most (size - f) → Written ws vs (take n (drop f v)) at n
+    → Filled ws vs v k most at (k - f) n
+filled-piece v k most {size} {f} {n} {at} {ws} {vs} long f-is n-is w =
+    record {
+      rest = left-over v k most long f-is n-is;
+      count = used v k most long f-is n-is;
+      wrote = subst (λ xs. Written ws vs xs at n) (sym (window-is v k most long f-is n-is)) w;
+    }
+
+-- in two
+pub filled-join : (a b : List ℕ) {ws us vs : List ℕ} {k most at skip n left m : ℕ} → Filled ws us a k most at skip n → Filled us vs b skip (most - n) (at + n) left m
+    → Filled ws vs (a ++ b) k most at left (n + m)
+filled-join a b {ws} {us} {vs} {k} {most} {at} {skip} {n} {left} {m} first second =
+    let both : window a k most ++ window b skip (most - n) ≡ window (a ++ b) k most
+    = ap (λ j. window a k most ++ window b j (most - n)) (first .rest) ∙ sym (window-join a b k most n (first .count)) in
+    record {
+      rest = omega (arith, first .rest, second .rest, length-append a b);
+      count = omega (arith, first .count, second .count, length-append (window a k most) (window b skip (most - n)), ap length both);
+      wrote = subst (λ xs. Written ws vs xs at (n + m)) both (write-join (first .count) (first .wrote) (second .wrote));
+    }
+
+pub filled-within : {ws vs v : List ℕ} {k most at left n : ℕ} → Filled ws vs v k most at left n → n ≤ most
+filled-within {ws} {vs} {v} {k} {most} filled = omega (arith, filled .count, length-window v k most)
 
 -- parts and headers that are not written
 same-part : (ws vs : List ℕ) (k n : ℕ) → ((j : ℕ) → k ≤ j → j < k + n → row-bit vs j ≡ row-bit ws j) → row-part vs k n ≡ row-part ws k n
@@ -60,3 +96,9 @@ pub header-written : {ws vs bs : List ℕ} {k i : ℕ} (ns : List ℕ) (h : ℕ)
     → Written ws vs bs k i → headers vs 0 ns ≡ set (headers ws 0 ns) h bs
 header-written {ws} {vs} {bs} {k} {i} ns h l long start all w =
     write-all ws vs bs 0 ns h l long (subst (λ m. Written ws vs bs (getD (starts-from 0 ns) h 0) m) all (subst (λ m. Written ws vs bs m i) start w))
+
+pub filled-whole : {ws vs v : List ℕ} {k most left n : ℕ} (ns : List ℕ) (h : ℕ) → h < length ns → length v ≡ getD ns h 0 → k ≡ getD (starts-from 0 ns) h 0 → most ≡ getD ns h 0
+    → Filled ws vs v 0 most k left n → headers vs 0 ns ≡ set (headers ws 0 ns) h v
+filled-whole {ws} {vs} {v} {k} {most} {left} {n} ns h l long start all filled =
+    let whole : take most v ≡ v = take-all most v (omega arith) in
+    header-written ns h l long start (filled .count ∙ ap length whole ∙ long) (subst (λ xs. Written ws vs xs k n) whole (filled .wrote))

@@ -1,4 +1,5 @@
 pub mod Row
+pub mod Window
 pub mod Ready
 pub mod Sound
 pub mod View

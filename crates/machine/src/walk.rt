@@ -64,10 +64,7 @@ impl Machine {
         requires long { ⌜ getD (sizes-in (now self)) h 0 ≤ length (now bits) ⌝ }
         ensures { λ _. ⌜ contents (now (self .entry)) (now (store .exit)) ≡ set (contents (now (self .entry)) (now (store .entry))) h (take (getD (sizes-in (now (self .entry))) h 0) (now (bits .entry))) ⌝ }
     {
-        let start = self.start(h);
-        for i in 0..self.size(h) {
-            store.set(start + i, bits[i] == 1);
-        }
+        store.write(self.start(h), &bits[..self.size(h)]);
     }
 
     // A header gets the value of an expression, which may read that header: so it reads a copy.
@@ -79,10 +76,7 @@ impl Machine {
         ensures { λ _. ⌜ contents (now (self .entry)) (now (store .exit)) ≡ set (contents (now (self .entry)) (now (store .entry))) h (value (contents (now (self .entry)) (now (store .entry))) (expr-of (now (e .entry)))) ⌝ }
     {
         let before = *store;
-        let start = self.start(h);
-        for i in 0..self.size(h) {
-            store.set(start + i, self.bit(e, &before, i) == 1);
-        }
+        let _ = self.fill_from(e, &before, 0, self.size(h), store, self.start(h));
     }
 
     // where the first case leads of which each pattern matches, else where `otherwise` does

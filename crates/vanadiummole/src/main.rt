@@ -6,6 +6,8 @@ mod room;
 use answer::answer;
 use hex::hex;
 use options::Options;
+use records::next_record;
+use records::wanted_room;
 use reply::line;
 use reply::write_answer;
 use room::lend;
@@ -14,8 +16,6 @@ use std::alloc::Global;
 use std::error::AnyError;
 use std::fs;
 use std::io::Read;
-use records::next_record;
-use records::wanted_room;
 
 // The line that is printed for a request.
 fn answer_line(heap: Global, request: &[u8], options: &Options) -> Result<String, AllocError> {

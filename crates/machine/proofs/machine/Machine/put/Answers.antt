@@ -1,22 +1,25 @@
-use mathlib.Core.Path.{sym, _∙_}
+use mathlib.Core.Path.{_≡_, ap, _∙_}
 use mathlib.Core.List.{List}
-use Prim.Native.Nat.{ℕ, _<_}
+use Prim.Native.Nat.{ℕ}
 use native.Mathlib.Omega.{arith}
-use lib.ListN.{getD}
-use Rattle.std.proofs.shelf.Lists.{getD-take, length-take-le}
-use Rattle.machine.specs.View.{sizes-in}
-use Rattle.machine.proofs.Small.{bit-told, bits-small}
-use Rattle.machine.proofs.Writes.{write-more, header-written}
+use lib.Dec.{ltb}
+use lib.ListN.{length, set, take}
+use Rattle.std.proofs.shelf.Lists.{length-take-le}
+use Rattle.model.proofs.Every.{every-take}
+use Rattle.machine.specs.View.{contents, sizes-in}
+use Rattle.machine.proofs.Writes.{header-written}
 use Rattle.machine.proofs.machine.Machine.put.Needs as need
 
-pub loop-i-again : need.loop-i-again
-loop-i-again c =
-    let n : ℕ = getD (sizes-in (c .args .self .now)) (c .args .h) 0 in
-    let i : ℕ = c .loop-i .i in
-    let inside : i < n = omega arith in
-    let told = bit-told (getD (c .args .bits .now) i 0) (bits-small (c .args .bits .now) (c .pre .bits) i) in
-    write-more (c .loop-i .inv) (c .set .ensures .here ∙ told ∙ sym (getD-take n (c .args .bits .now) i 0 inside)) (c .set .ensures .others)
+pub write-requires : need.write-requires
+write-requires c κs =
+    let bs : List ℕ = c .args .bits .now in
+    let n : ℕ = c .size .result in
+    record { bits = every-take (λ b. ltb b 2) bs (c .pre .bits) n; room = omega (arith, length-take-le n bs (omega (arith, c .size .ensures))) }
 
 pub returns : need.returns
 returns c =
-    header-written (sizes-in (c .args .self .now)) (c .args .h) (c .pre .known) (length-take-le _ (c .args .bits .now) (c .pre .long)) (c .start-start .ensures .value) (omega arith) (c .loop-i .inv)
+    let bs : List ℕ = c .args .bits .now in
+    let n : ℕ = c .size .result in
+    let long : length (take n bs) ≡ n = length-take-le n bs (omega (arith, c .size .ensures)) in
+    header-written (sizes-in (c .args .self .now)) (c .args .h) (c .pre .known) (long ∙ c .size .ensures) (c .start .ensures .value) (long ∙ c .size .ensures) (c .write .ensures)
+    ∙ ap (λ m. set (contents (c .args .self .now) (c .args .store .now)) (c .args .h) (take m bs)) (c .size .ensures)
