@@ -10,23 +10,30 @@ use records::next_record;
 use records::wanted_room;
 use reply::line;
 use reply::write_answer;
-use room::lend;
+use room::grow;
 use std::alloc::AllocError;
 use std::alloc::Global;
 use std::error::AnyError;
 use std::fs;
 use std::io::Read;
 
-// The line that is printed for a request.
-fn answer_line(heap: Global, request: &[u8], options: &Options) -> Result<String, AllocError> {
+// The line that is printed for a request, which is lent as much room as it asks for, and no more.
+fn answer_line(
+    heap: Global,
+    request: &[u8],
+    options: &Options,
+    room: &mut Vec<u64>,
+) -> Result<String, AllocError> {
     let wanted = wanted_room(request).min(options.most_room);
-    let mut room = lend(heap, wanted);
-    let answer = answer(heap, request, room.as_mut_slice())?;
+    grow(heap, room, wanted);
+    let lent = room.len().min(wanted as usize);
+    let answer = answer(heap, request, &mut room.as_mut_slice()[0..lent])?;
+    let room = &room.as_slice()[0..lent];
     if options.hex {
-        let bytes = write_answer(heap, &answer, room.as_slice())?;
+        let bytes = write_answer(heap, &answer, room)?;
         return hex(heap, bytes.as_slice());
     }
-    line(heap, &answer, room.as_slice())
+    line(heap, &answer, room)
 }
 
 // A line for each request of a file, as soon as it is answered.
@@ -36,10 +43,11 @@ fn answer_all(
     file: &[u8],
     options: &Options,
 ) -> Result<(), AnyError> {
+    let mut room = Vec::new(rt.alloc());
     let mut at = 0;
     while let Some(record) = next_record(file, at) {
         let request = &file[record.start..record.end];
-        let Ok(line) = answer_line(rt.alloc(), request, options) else {
+        let Ok(line) = answer_line(rt.alloc(), request, options, &mut room) else {
             return Err(format!(rt.alloc(), "{name}: byte {at}: not enough memory")?.into());
         };
         rt.println(line)?;
