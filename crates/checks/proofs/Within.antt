@@ -1,5 +1,5 @@
 -- The limits of a parser, in the order of the code. Assumes nothing.
-use Rattle.std.proofs.Common.{◌≡◌, ◌<◌, Bool, ◌&&◌, ltb, leb, List, map, length, vec_items, ap, arith}
+use Rattle.std.proofs.Common.{◌≡◌, ◌<◌, Bool, ◌&&◌, ltb, leb, List, map, length, vec_items, arith}
 use lib.ListN.{length-map}
 use Rattle.model.specs.Parser.{Expr, header, bits, slice, join}
 use Rattle.model.specs.Refusal.{every, total, sum, parts_expr, parts_state, shallow_state, within_limits}

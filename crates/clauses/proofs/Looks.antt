@@ -1,9 +1,8 @@
 -- A clause with one more literal.
-use Rattle.std.proofs.Common.{◌≡◌, ℕ, ◌+◌, ◌-◌, ◌/◌, ◌%◌, ◌<◌, ◌≤◌, Bool, true, false, ◌⊎◌, List, [], ◌∷◌, ◌++◌, length, get_or, sym, refl, ap, ◌∙◌, subst, inl, inr, ⊎_elim, arith}
-use Rattle.clauses.specs.Clauses.{bit, Holds, Sat, part}
-use Rattle.clauses.specs.Known.{Fits, Resolved, Looked}
-use Rattle.clauses.specs.declared.bits.Bit.{Bit}
-use Rattle.clauses.specs.declared.bits.Bit.TheVariants.{Known, Open, Nowhere}
+use Rattle.std.proofs.Common.{◌≡◌, ℕ, ◌-◌, ◌/◌, ◌%◌, ◌<◌, List, [], ◌∷◌, ◌++◌, ap, ⊎_elim, arith}
+use Rattle.clauses.specs.Clauses.{bit}
+use Rattle.clauses.specs.Known.{Resolved, Looked}
+use Rattle.clauses.specs.declared.bits.Bit.TheVariants.{Known, Open}
 use Rattle.clauses.specs.declared.look.Look.{Look}
 use Rattle.clauses.specs.declared.look.Look.TheVariants.{Dead, One, Other}
 use Rattle.clauses.proofs.Parts.{bit_le, sat_push}

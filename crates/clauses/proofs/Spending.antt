@@ -1,5 +1,5 @@
 -- Work that is taken in parts.
-use Rattle.std.proofs.Common.{◌≡◌, ℕ, ◌+◌, ◌-◌, ◌*◌, ◌<◌, ◌≤◌, sym, refl, ap, ◌∙◌, subst, mul-le-mul_right, add-mul, one-mul, arith}
+use Rattle.std.proofs.Common.{◌≡◌, ℕ, ◌+◌, ◌-◌, ◌*◌, ◌<◌, ◌≤◌, sym, refl, ap, ◌∙◌, mul-le-mul_right, add-mul, one-mul, arith}
 use Rattle.clauses.specs.Budget.{Spent}
 
 pub spent_none : (work limit : ℕ) (Out : Type 0) → (Out → ⊥) → Spent work work limit Out

@@ -1,5 +1,5 @@
 -- Clauses over bits, as they stand in lent numbers, and what follows from them. Assumes nothing.
-use Rattle.std.specs.Prelude.{◌≡◌, ℕ, ◌+◌, ◌/◌, ◌%◌, ◌<◌, Bool, true, false, List, [], ◌∷◌, map, length, take, drop, slice_index, slice_index_or}
+use Rattle.std.specs.Prelude.{◌≡◌, ℕ, ◌+◌, ◌/◌, ◌%◌, ◌<◌, Bool, true, false, List, [], map, length, take, drop, slice_index, slice_index_or}
 
 unfoldable pub bit : Bool → ℕ
 bit true = 1

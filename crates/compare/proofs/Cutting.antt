@@ -1,8 +1,7 @@
 -- A number's bits, cut in two, and read from one word of the room.
-use Rattle.std.proofs.Common.{◌≡◌, ℕ, zero, suc, ◌+◌, ◌*◌, ◌/◌, ◌%◌, ◌^◌, ◌<◌, ◌≤◌, List, [], ◌∷◌, ◌++◌, length, get_or, sym, refl, ap, ◌∙◌, ap₂, suc-add, pow-suc, zero-add, div-one, add-one, arith}
-use Rattle.std.proofs.lemmas.Nat.{shr-shr, field_of, mod-pow-add}
-use Rattle.model.specs.Parser.{Bits}
-use Rattle.rows.specs.Row.{bit_in, bits_in}
+use Rattle.std.proofs.Common.{◌≡◌, ℕ, zero, suc, ◌+◌, ◌/◌, ◌%◌, ◌^◌, ◌≤◌, List, ◌∷◌, ◌++◌, get_or, sym, refl, ap, ◌∙◌, ap₂, suc-add, zero-add, div-one, add-one, arith}
+use Rattle.std.proofs.lemmas.Nat.{shr-shr}
+use Rattle.rows.specs.Row.{bits_in}
 use Rattle.theory.specs.Number.{number_bits}
 
 -- the bits of n + m are the first n, and m of what is above them

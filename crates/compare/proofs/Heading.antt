@@ -1,14 +1,14 @@
 -- What is in the headers of both parsers, written one before the other.
-use Rattle.std.proofs.Common.{◌≡◌, ℕ, ◌+◌, ◌*◌, ◌/◌, ◌%◌, ◌^◌, ◌<◌, ◌≤◌, List, get_or, sym, refl, ap, ◌∙◌, subst, inl, inr, mul_comm, arith}
-use Rattle.model.specs.Refusal.{fault, sum}
+use Rattle.std.proofs.Common.{◌≡◌, ℕ, ◌+◌, ◌*◌, ◌/◌, ◌%◌, ◌^◌, ◌≤◌, List, get_or, ap, ◌∙◌, subst, inr, mul_comm, arith}
+use Rattle.model.specs.Refusal.{sum}
 use Rattle.model.specs.Promise.{config_count}
-use Rattle.machine.specs.View.{parser_in, sizes_in}
-use Rattle.theory.specs.Number.{number_bits, parted, number_config}
+use Rattle.machine.specs.View.{sizes_in}
+use Rattle.theory.specs.Number.{number_bits, parted}
 use Rattle.rows.specs.Row.{store_in, store_end}
 use Rattle.product.specs.Pair.{header_number}
 use Rattle.product.specs.declared.product.Product.{Product}
 use Rattle.compare.specs.Pieces.{Narrow, Outside, store_words}
-use Rattle.compare.specs.Headed.{Headed, first_in, second_in, header_room}
+use Rattle.compare.specs.Headed.{Headed, first_in, second_in}
 use Rattle.product.proofs.Exponents.{count_some}
 use Rattle.compare.proofs.Narrowing.{narrow}
 use Rattle.compare.proofs.Suffix.{store_same, store_end_same}

@@ -1,9 +1,9 @@
 -- Where pairs fit 60 bits, each header fits a number.
-use Rattle.std.proofs.Common.{◌≡◌, ℕ, zero, suc, ◌+◌, ◌*◌, ◌^◌, ◌<◌, ◌≤◌, Bool, true, false, cond, ltb, List, [], ◌∷◌, length, get_or, sym, refl, ap, ◌∙◌, subst, ⊎_elim, not-suc-le-zero, mul_comm, arith, lit<}
-use Rattle.std.proofs.lemmas.Nat.{pow_pos, pow-add, pow_below, mul-le}
+use Rattle.std.proofs.Common.{◌≡◌, ℕ, zero, suc, ◌+◌, ◌*◌, ◌^◌, ◌<◌, ◌≤◌, Bool, true, false, cond, ltb, List, [], ◌∷◌, length, get_or, refl, ⊎_elim, not-suc-le-zero, arith, lit<}
+use Rattle.std.proofs.lemmas.Nat.{pow_below, mul-le}
 use Rattle.std.proofs.lemmas.Bool.{and_parts, ltb-true, cases_lt}
 use Rattle.model.specs.Parser.{Parser}
-use Rattle.model.specs.Refusal.{fault, sum, every, widest, within_limits}
+use Rattle.model.specs.Refusal.{fault, sum, every, widest}
 use Rattle.model.specs.Promise.{config_count}
 use Rattle.model.proofs.Every.{every_at}
 use Rattle.compare.specs.Pieces.{Narrow}

@@ -1,8 +1,7 @@
 -- What stands in the room from a place on depends on nothing before that place.
-use Rattle.std.proofs.Common.{◌≡◌, ℕ, zero, suc, ◌+◌, ◌/◌, ◌%◌, ◌^◌, ◌≤◌, List, [], ◌∷◌, length, get_or, drop, sym, refl, ap, ◌∙◌, ap₂, arith}
+use Rattle.std.proofs.Common.{◌≡◌, ℕ, zero, suc, ◌+◌, ◌/◌, ◌%◌, ◌^◌, ◌≤◌, List, ◌∷◌, get_or, drop, sym, refl, ap, ◌∙◌, ap₂, arith}
 use Rattle.std.proofs.lemmas.List.{get_or-drop}
-use Rattle.model.specs.Parser.{Bits, Store}
-use Rattle.rows.specs.Row.{bit_in, bits_in, row_in, row_end, rows_in, rows_end, store_in, store_end}
+use Rattle.rows.specs.Row.{bits_in, row_in, row_end, rows_in, rows_end, store_in, store_end}
 
 -- two rooms have the same numbers from a place on
 abbrev pub From : List ℕ → List ℕ → ℕ → Type 0

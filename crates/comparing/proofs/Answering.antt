@@ -1,6 +1,6 @@
 -- What is settled of a request is what is promised of its answer.
-use Rattle.std.proofs.Common.{◌≡◌, ℕ, ◌+◌, ◌<◌, ◌≤◌, min, Bool, true, false, cond, ◌&&◌, eqb, ltb, leb, List, map, length, Ok, Err, sym, refl, ap, ◌∙◌, subst, ap₂, arith, lit<}
-use Rattle.std.proofs.lemmas.Bool.{and_parts, and_from, and_left, ltb-true, lt-ltb, le-ltb, cond-true, cond-false, eq-eqb, ne_eqb, true≢false}
+use Rattle.std.proofs.Common.{◌≡◌, ℕ, ◌<◌, ◌≤◌, min, true, false, cond, ◌&&◌, eqb, ltb, leb, List, length, Ok, Err, sym, refl, ap, ◌∙◌, subst, ap₂, arith, lit<}
+use Rattle.std.proofs.lemmas.Bool.{and_parts, and_from, ltb-true, lt-ltb, le-ltb, cond-true, cond-false, eq-eqb, ne_eqb, true≢false}
 use Rattle.model.specs.Parser as P
 use Rattle.model.specs.Refusal.{are_bits, store_fits, fault}
 use Rattle.model.specs.Request as M

@@ -1,11 +1,10 @@
 -- The valuation that a list of bits says.
-use Rattle.std.proofs.Common.{◌≡◌, ℕ, ◌+◌, ◌-◌, ◌/◌, ◌%◌, ◌<◌, ◌≤◌, Bool, true, false, eqb, ◌⊎◌, List, [], ◌∷◌, map, length, get_or, take, sym, refl, ap, ◌∙◌, subst, inl, inr, ⊎_elim, arith, eq-eqb, ne_eqb}
+use Rattle.std.proofs.Common.{◌≡◌, ℕ, ◌/◌, ◌%◌, ◌<◌, ◌≤◌, Bool, List, [], map, length, get_or, take, sym, ap, ◌∙◌, subst, arith, eq-eqb, ne_eqb}
 use Rattle.std.proofs.lemmas.List.{get_or_past, get_or-map, get_or-take, length-map, length-take-le}
-use Rattle.std.proofs.lemmas.Bool.{cases_eq}
-use Rattle.clauses.specs.Clauses.{bit, Holds, Sat, All, Follows, part, clause_at, clauses_at}
+use Rattle.clauses.specs.Clauses.{bit, Holds, Sat, All, clause_at, clauses_at}
 use Rattle.clauses.specs.Known.{Fits}
 use Rattle.entails.specs.Answers.{says}
-use Rattle.clauses.proofs.Parts.{bit_le, length_part, get_d_part, sat_at, sat_more, sat_none, all_at}
+use Rattle.clauses.proofs.Parts.{bit_le}
 
 pub says_one : (value : List ℕ) (p : ℕ) → get_or value p 0 ≡ 1 → 1 ≡ bit (says value p)
 unfolding says bit

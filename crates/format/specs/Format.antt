@@ -1,8 +1,8 @@
 -- The bytes of requests and answers, read. Assumes nothing.
 use Rattle.std.specs.Prelude.{ℕ, zero, suc, ◌-◌, Bool, true, false, cond, List, [], ◌∷◌, length, take, nat_le}
-use Rattle.model.specs.Parser.{Bits, Expr, header, bits, slice, join, Op, extract, assign, Target, state, accept, reject, Pattern, exactly, any, Case, State, Parser, Store}
-use Rattle.model.specs.Request.{Comparison, Request, compare, parse, garbled, Answer, refused, verdict, equivalent, distinguished, exhausted}
-use Rattle.format.specs.Read.{Read, got, failed, bind, read_number, read_tagged, read_many, read_counted, read_row}
+use Rattle.model.specs.Parser.{Expr, header, bits, slice, join, Op, extract, assign, Target, state, accept, reject, Pattern, exactly, any, Case, State, Parser, Store}
+use Rattle.model.specs.Request.{Request, compare, parse, garbled, Answer, refused, verdict, equivalent, distinguished, exhausted}
+use Rattle.format.specs.Read.{Read, got, failed, bind, read_number, read_tagged, read_counted, read_row}
 
 -- what comes after an expression's tag, its parts read by `self`: 0 header, 1 bits, 2 slice, 3 join
 abbrev pub expr_choices : (List ℕ → Read Expr) → List ℕ → List (Read Expr)

@@ -2,8 +2,8 @@
 use Rattle.std.specs.Prelude.{◌≡◌, ℕ, zero, suc, ◌/◌, ◌%◌, ◌^◌, ◌≤◌, Bool, true, false, ◌&&◌, List, [], ◌∷◌, ◌++◌, length, nat_lt}
 use Rattle.model.specs.Parser.{Bits, Expr, header, bits, slice, join, Op, extract, assign, Target, state, accept, reject, Pattern, exactly, any, Case, State, Parser, Store}
 use Rattle.model.specs.Refusal.{every}
-use Rattle.model.specs.Request.{Comparison, Request, compare, parse, garbled, Answer, refused, verdict, equivalent, distinguished, exhausted}
-use Rattle.format.specs.Read.{Read, got}
+use Rattle.model.specs.Request.{Request, compare, parse, garbled, Answer, refused, verdict, equivalent, distinguished, exhausted}
+use Rattle.format.specs.Read.{got}
 use Rattle.format.specs.Format.{asked_from, read_answer}
 
 -- a number of so many bytes, the highest first

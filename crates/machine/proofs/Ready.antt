@@ -4,7 +4,7 @@ use Rattle.std.proofs.lemmas.List.{append_assoc, append-nil, at_drop_more, at_dr
 use Rattle.std.proofs.lemmas.Bool.{ltb-true}
 use Rattle.model.specs.Parser.{ops_width}
 use Rattle.model.specs.Refusal.{every, named_op, sum}
-use Rattle.syntax.specs.View.{expr_of, op_of}
+use Rattle.syntax.specs.View.{op_of}
 use Rattle.syntax.specs.declared.ast.Expr.{Expr}
 use Rattle.syntax.specs.declared.ast.Op.{Op}
 use Rattle.syntax.specs.declared.ast.Op.TheVariants.{Extract, Assign}

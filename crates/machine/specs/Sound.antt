@@ -1,6 +1,6 @@
 -- What is known of a state of a parser that is right. Assumes nothing.
 use Rattle.std.specs.Prelude.{◌≡◌, ℕ, ◌<◌, ◌≤◌, true, List}
-use Rattle.model.specs.Parser.{Case, Expr, State, ops_width}
+use Rattle.model.specs.Parser.{State, ops_width}
 use Rattle.model.specs.Refusal.{every, named_op, named_expr, named_target, sized_op, sized_expr, sized_patterns}
 
 -- of headers with these sizes and so many states

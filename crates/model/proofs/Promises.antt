@@ -1,7 +1,6 @@
 -- What follows from the promise on each call, and which numbers a parser's fault can have.
 use Rattle.std.proofs.Common.{◌≡◌, ℕ, ◌<◌, Bool, true, false, cond, ◌⊎◌, refl, inl, inr, arith}
-use Rattle.model.specs.Parser.{Parser}
-use Rattle.model.specs.Refusal.{within_limits, named, sized, taking, narrow, fault}
+use Rattle.model.specs.Refusal.{within_limits, named, sized, taking, narrow}
 use Rattle.model.specs.Promise.{PromisedIsRight, Right, Enough, SoonForSmall}
 use Rattle.model.specs.Request.{compare}
 use Rattle.model.specs.Theory.{RightOrRefused}

@@ -1,5 +1,5 @@
 -- Configurations of a parser, and what one bit of input does to them. Assumes nothing.
-use Rattle.std.specs.Prelude.{◌≡◌, ℕ, ◌<◌, Bool, true, false, cond, List, [], ◌∷◌, ◌++◌, length, get_or, nat_lt, slice_index_or}
+use Rattle.std.specs.Prelude.{◌≡◌, ℕ, ◌<◌, Bool, true, false, cond, [], ◌∷◌, ◌++◌, length, get_or, nat_lt, slice_index_or}
 use Rattle.model.specs.Parser.{Bits, Target, state, accept, reject, State, Parser, Store, width, run_ops, select, no_state}
 
 -- where a parser is: a state or an end, what is in the headers, and the bits that the state has taken so far

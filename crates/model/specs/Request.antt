@@ -1,5 +1,5 @@
 -- What can be asked, what can be answered, and by which number a request is refused. Assumes nothing.
-use Rattle.std.specs.Prelude.{ℕ, min, Bool, true, false, cond, ◌&&◌, List, length, ◌==◌, nat_le, nat_lt}
+use Rattle.std.specs.Prelude.{ℕ, min, Bool, true, cond, ◌&&◌, length, ◌==◌, nat_le, nat_lt}
 use Rattle.model.specs.Parser.{Bits, Parser, Store}
 use Rattle.model.specs.Refusal.{are_bits, fault, store_fits}
 

@@ -1,10 +1,10 @@
 -- Nine statements about the definitions. Assumes nothing: each is a type, whose proof is owed where a function's contract names it.
-use Rattle.std.specs.Prelude.{◌≡◌, ℕ, suc, ◌*◌, ◌<◌, ◌≤◌, true, ◌⊎◌, List, [], length}
+use Rattle.std.specs.Prelude.{◌≡◌, ℕ, suc, ◌*◌, ◌<◌, ◌≤◌, true, ◌⊎◌, [], length}
 use Rattle.model.specs.Parser.{Bits, Target, Parser, Store, accepts, accepts_from}
 use Rattle.model.specs.Refusal.{are_bits, store_fits, fault}
 use Rattle.model.specs.Request.{Comparison, compare, refusal, everything}
 use Rattle.model.specs.Promise.{Equivalent, Distinguished, config_count}
-use Rattle.model.specs.Config.{Config, needs, step, steps, is_accept, initial, Bisimulation}
+use Rattle.model.specs.Config.{Config, needs, steps, is_accept, initial, Bisimulation}
 
 -- every pair of headers' contents is related at the beginning
 abbrev pub Initially : Comparison → (Config → Config → Type 0) → Type 0

@@ -29,11 +29,11 @@ module _ {n m : ℕ} (k : ℕ) (is : n ≡ m) where
     past_states : number_target m k ≡ cond (eqb k m) accept reject
     past_states = cond-false (ltb k m) _ _ (le-ltb k m (omega arith))
 
-    pub number-is_accept : k ≡ n → accept ≡ number_target m k
-    number-is_accept e = sym (past_states ∙ cond-true (eqb k m) _ _ (eq-eqb k m (omega arith)))
+    pub number_is_accept : k ≡ n → accept ≡ number_target m k
+    number_is_accept e = sym (past_states ∙ cond-true (eqb k m) _ _ (eq-eqb k m (omega arith)))
 
-    pub number-is_reject : (k ≡ n → ⊥) → reject ≡ number_target m k
-    number-is_reject ne = sym (past_states ∙ cond-false (eqb k m) _ _ (ne_eqb k m (λ e. ne (omega arith))))
+    pub number_is_reject : (k ≡ n → ⊥) → reject ≡ number_target m k
+    number_is_reject ne = sym (past_states ∙ cond-false (eqb k m) _ _ (ne_eqb k m (λ e. ne (omega arith))))
 
 pub accept_number : (n k : ℕ) → eqb k n ≡ is_accept (number_target n k)
 unfolding is_accept

@@ -18,7 +18,7 @@ use Rattle.theory.proofs.Waiting.{steps_none, steps_more}
 use Rattle.product.specs.Pair.{just_one, start_number, store_count, pair_model, SafeIsEquivalent, LeadingDistinguishes}
 use Rattle.product.specs.View.{store_of}
 use Rattle.product.proofs.BitNumbers.{store_of_fits}
-use Rattle.product.proofs.Numbers.{below, back, next, next_good, first_good, store_again}
+use Rattle.product.proofs.Numbers.{below, back, next_good, first_good, store_again}
 
 -- exactly one, or both alike
 just_one_not : (x y : Bool) → just_one x y ≡ false → x ≡ y

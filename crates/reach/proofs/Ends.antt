@@ -1,7 +1,7 @@
 -- From the ends of its parts to the end of a search. Assumes nothing.
-use Rattle.std.proofs.Common.{◌≡◌, ℕ, suc, ◌+◌, ◌-◌, ◌*◌, ◌/◌, ◌^◌, ◌<◌, ◌≤◌, true, List, length, get_or, sym, refl, ap, ◌∙◌, subst, inl, inr, arith}
+use Rattle.std.proofs.Common.{◌≡◌, ℕ, suc, ◌+◌, ◌-◌, ◌*◌, ◌^◌, ◌≤◌, List, sym, ap, ◌∙◌, subst, inl, arith}
 use Rattle.rows.specs.Row.{row_in}
-use Rattle.reach.specs.Model.{Model, follow, Leads}
+use Rattle.reach.specs.Model.{Model, Leads}
 use Rattle.reach.specs.Ended.{sets_words, table_words, Ended}
 use Rattle.reach.specs.Tables.{path, entry, plan_for, Laid}
 use Rattle.reach.specs.Held.{conf}

@@ -1,12 +1,12 @@
 -- The starts and then all that they lead to: what each turn makes of the room, and what follows at the end. Assumes nothing.
-use Rattle.std.proofs.Common.{◌≡◌, ℕ, ◌+◌, ◌*◌, ◌/◌, ◌%◌, ◌<◌, ◌≤◌, Bool, true, false, not, eqb, ltb, ◌⊎◌, List, [], ◌∷◌, sym, refl, ap, ◌∙◌, subst, inl, inr, ⊎_elim, arith}
+use Rattle.std.proofs.Common.{◌≡◌, ℕ, ◌+◌, ◌*◌, ◌/◌, ◌%◌, ◌<◌, ◌≤◌, Bool, true, false, not, eqb, ltb, List, [], ◌∷◌, sym, ap, ◌∙◌, subst, ⊎_elim, arith}
 use Rattle.std.proofs.lemmas.Bool.{and_parts, ltb-true}
 use Rattle.model.specs.Parser.{Bits}
 use Rattle.model.specs.Refusal.{are_bits}
 use Rattle.rows.specs.Row.{bit_in}
 use Rattle.reach.specs.Model.{Model, follow, Safe}
 use Rattle.reach.specs.Tables.{seen, odd_in, entry, Laid}
-use Rattle.reach.specs.Held.{conf, Held, Waits, Origin, Pushed}
+use Rattle.reach.specs.Held.{conf, Waits, Origin, Pushed}
 use Rattle.reach.specs.Phases.{Going, Caught}
 use Rattle.reach.specs.declared.plan.Plan.{Plan}
 use Rattle.reach.proofs.Members.{member_in}

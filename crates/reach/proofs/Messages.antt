@@ -1,16 +1,16 @@
 -- What a turn over the entries on the way writes. Assumes nothing.
-use Rattle.std.proofs.Common.{◌≡◌, ℕ, zero, suc, ◌+◌, ◌-◌, ◌*◌, ◌/◌, ◌%◌, ◌<◌, ◌≤◌, Bool, true, false, cond, eqb, List, [], ◌∷◌, ◌++◌, length, get_or, drop, set, sym, refl, ap, ◌∙◌, subst, ⊎_elim, arith}
+use Rattle.std.proofs.Common.{◌≡◌, ℕ, zero, suc, ◌+◌, ◌-◌, ◌*◌, ◌/◌, ◌%◌, ◌<◌, ◌≤◌, true, false, cond, eqb, List, [], ◌∷◌, ◌++◌, length, drop, set, sym, refl, ap, ◌∙◌, subst, ⊎_elim, arith}
 use Rattle.std.proofs.lemmas.Nat.{mod_below}
 use Rattle.std.proofs.lemmas.List.{append_assoc, append-nil, get_or-set_same, drop-set-lt}
 use Rattle.std.proofs.lemmas.Bool.{cases_lt, false≢true}
 use Rattle.rows.specs.Row.{bit_in, bits_in, row_in}
 use Rattle.rows.specs.Lowest.{Zeros, LowestOne}
-use Rattle.reach.specs.Tables.{path, entry, cap, Laid}
+use Rattle.reach.specs.Tables.{path, entry, Laid}
 use Rattle.reach.specs.Ways.{spelled}
 use Rattle.reach.specs.Tracing.{Spelling}
 use Rattle.reach.specs.declared.plan.Plan.{Plan}
 use Rattle.reach.proofs.Members.{member_kept, member_zero, member_one}
-use Rattle.reach.proofs.Entries.{entry_front, laid_more}
+use Rattle.reach.proofs.Entries.{entry_front}
 use Rattle.reach.proofs.Pushes.{Put}
 use Rattle.reach.proofs.Spellings.{spelled_skip, spelled-take, spelled_none, bits_more, bits_same, bit-drop}
 

@@ -1,8 +1,8 @@
 -- What three writes for a new entry do to the tables. Assumes nothing.
-use Rattle.std.proofs.Common.{◌≡◌, ℕ, ◌+◌, ◌*◌, ◌/◌, ◌<◌, ◌≤◌, Bool, true, false, cond, eqb, List, get_or, sym, refl, ap, ◌∙◌, inl, inr, arith}
+use Rattle.std.proofs.Common.{◌≡◌, ℕ, ◌+◌, ◌*◌, ◌/◌, ◌<◌, Bool, true, cond, eqb, List, get_or, refl, ap, ◌∙◌, inl, inr, arith}
 use Rattle.rows.specs.Row.{bit_in}
-use Rattle.reach.specs.Tables.{seen, odd_in, path, entry}
-use Rattle.reach.specs.Held.{Changed, Pushed}
+use Rattle.reach.specs.Tables.{seen, odd_in, entry}
+use Rattle.reach.specs.Held.{Pushed}
 use Rattle.reach.specs.declared.plan.Plan.{Plan}
 use Rattle.reach.proofs.Members.{member_in, member_one, member_others, member_apart, member_kept, put_bit}
 use Rattle.reach.proofs.Entries.{entry_kept}

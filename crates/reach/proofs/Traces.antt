@@ -1,10 +1,10 @@
 -- What a turn of the way back keeps. Assumes nothing.
-use Rattle.std.proofs.Common.{◌≡◌, ℕ, suc, ◌+◌, ◌-◌, ◌*◌, ◌/◌, ◌%◌, ◌<◌, ◌≤◌, Bool, true, false, ◌&&◌, eqb, ◌⊎◌, List, ◌∷◌, sym, refl, ap, ◌∙◌, subst, inl, inr, ⊎_elim, arith}
+use Rattle.std.proofs.Common.{◌≡◌, ℕ, suc, ◌+◌, ◌-◌, ◌*◌, ◌/◌, ◌%◌, ◌<◌, ◌≤◌, Bool, true, false, ◌&&◌, eqb, List, ◌∷◌, sym, refl, ap, ◌∙◌, subst, inr, ⊎_elim, arith}
 use mathlib.Core.Bool.{beq}
 use Rattle.std.proofs.lemmas.Bool.{cases_eq, cases_lt, and_left, and_parts, eqb-true, false≢true}
 use Rattle.reach.specs.Model.{Model, follow}
 use Rattle.reach.specs.Tables.{seen, odd_in, path, entry}
-use Rattle.reach.specs.Held.{conf, by_bit, differ, steps, Begins, Origin, Held, Changed}
+use Rattle.reach.specs.Held.{conf, by_bit, differ, steps, Begins, Held, Changed}
 use Rattle.reach.specs.Phases.{Caught}
 use Rattle.reach.specs.Ways.{spelled, WayFrom}
 use Rattle.reach.specs.Tracing.{Tracing}

@@ -1,8 +1,8 @@
 -- What a turn of the search keeps. Assumes nothing.
-use Rattle.std.proofs.Common.{◌≡◌, ℕ, ◌+◌, ◌*◌, ◌/◌, ◌%◌, ◌<◌, ◌≤◌, Bool, true, false, not, eqb, ◌⊎◌, List, sym, refl, ap, ◌∙◌, subst, inl, inr, ⊎_elim, arith}
+use Rattle.std.proofs.Common.{◌≡◌, ℕ, ◌+◌, ◌*◌, ◌/◌, ◌%◌, ◌<◌, ◌≤◌, Bool, true, false, not, eqb, List, sym, refl, ap, ◌∙◌, subst, inl, inr, ⊎_elim, arith}
 use Rattle.std.proofs.lemmas.Bool.{cases_eq, and_from, eq-eqb, false≢true}
 use Rattle.reach.specs.Model.{Model}
-use Rattle.reach.specs.Tables.{seen, odd_in, path, entry, blanks}
+use Rattle.reach.specs.Tables.{seen, odd_in, entry}
 use Rattle.reach.specs.Held.{conf, by_bit, differ, steps, Begins, Origin, Held, Waits, Swept, Changed, Pushed}
 use Rattle.reach.specs.Phases.{Zeroed, Unmarked, Going, Caught}
 use Rattle.reach.specs.declared.plan.Plan.{Plan}

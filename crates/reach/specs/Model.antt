@@ -1,5 +1,5 @@
 -- Systems of configurations that bits lead through, and which of them come to a bad one. Assumes nothing.
-use Rattle.std.specs.Prelude.{◌≡◌, ℕ, ◌<◌, Bool, true, false, List, [], ◌∷◌}
+use Rattle.std.specs.Prelude.{◌≡◌, ℕ, ◌<◌, Bool, true, false, [], ◌∷◌}
 use Rattle.model.specs.Parser.{Bits}
 use Rattle.model.specs.Refusal.{are_bits}
 

@@ -1,5 +1,5 @@
 -- Between two turns of the way back and of the message. Assumes nothing.
-use Rattle.std.specs.Prelude.{◌≡◌, ℕ, suc, ◌+◌, ◌-◌, ◌/◌, ◌<◌, ◌≤◌, Bool, true, false, List, ◌++◌, drop, slice_index}
+use Rattle.std.specs.Prelude.{◌≡◌, ℕ, suc, ◌+◌, ◌-◌, ◌<◌, ◌≤◌, Bool, true, false, List, ◌++◌, drop, slice_index}
 use Rattle.rows.specs.Row.{bits_in}
 use Rattle.reach.specs.Model.{Model, follow}
 use Rattle.reach.specs.Tables.{path, entry}

@@ -1,5 +1,5 @@
 -- The way to a bad entry, and the message that it spells. Assumes nothing.
-use Rattle.std.specs.Prelude.{◌≡◌, ℕ, zero, suc, ◌+◌, ◌-◌, ◌*◌, ◌%◌, ◌<◌, ◌≤◌, Bool, true, false, cond, List, [], ◌∷◌, Some, None, Option, slice_index_or}
+use Rattle.std.specs.Prelude.{◌≡◌, ℕ, zero, suc, ◌+◌, ◌-◌, ◌%◌, ◌<◌, ◌≤◌, Bool, true, cond, List, [], ◌∷◌, Some, None, Option, slice_index_or}
 use Rattle.model.specs.Parser.{Bits}
 use Rattle.rows.specs.Row.{row_in}
 use Rattle.reach.specs.Model.{Model, follow}

@@ -1,10 +1,10 @@
 -- Where a record ends in a file, and the last bytes of a request.
-use Rattle.std.proofs.Common.{◌≡◌, ℕ, zero, suc, ◌+◌, ◌-◌, ◌<◌, ◌≤◌, Bool, true, false, cond, ◌&&◌, eqb, ltb, leb, List, [], ◌∷◌, length, get_or, take, drop, sym, refl, ap, ◌∙◌, subst, ap₂, arith}
+use Rattle.std.proofs.Common.{◌≡◌, ℕ, ◌+◌, ◌-◌, ◌<◌, ◌≤◌, cond, List, [], length, take, drop, sym, ap, ◌∙◌, ap₂, arith}
 use Rattle.std.proofs.lemmas.List.{drop-drop, drop_all, length-drop, take_all}
-use Rattle.std.proofs.lemmas.Bool.{le-leb, lt-ltb, eq-eqb}
-use Rattle.format.specs.Read.{Read, got, failed, bind, read_bytes, read_number, big_endian}
+use Rattle.std.proofs.lemmas.Bool.{le-leb}
+use Rattle.format.specs.Read.{got, failed, bind, read_number, big_endian}
 use Rattle.scan.specs.Reads.{Took, Is}
-use Rattle.records.specs.Record.{record_length, first_request, after_record, Found, room_wanted}
+use Rattle.records.specs.Record.{record_length, Found}
 
 -- the number that was read
 pub number_is : (bs : List ℕ) (at k : ℕ) {n next : ℕ} → Took (read_number k (drop at bs)) (Is (λ m. m)) bs n next → at + k ≤ length bs → n ≡ big_endian 0 (take k (drop at bs))

@@ -1,5 +1,5 @@
 -- A file of requests. Assumes nothing.
-use Rattle.std.specs.Prelude.{◌≡◌, ℕ, zero, suc, ◌-◌, ◌<◌, ◌≤◌, cond, ◌&&◌, List, [], ◌∷◌, length, take, drop, ◌==◌, nat_lt, slice_index}
+use Rattle.std.specs.Prelude.{◌≡◌, ℕ, ◌-◌, ◌<◌, ◌≤◌, cond, ◌&&◌, List, length, take, drop, ◌==◌, nat_lt, slice_index}
 use Rattle.format.specs.Read.{big_endian}
 
 -- a record is a length of four bytes, and then so many bytes, which are a request; where the bytes end inside one, those that are there are it

@@ -16,6 +16,6 @@ pub byte_at : (v k : ℕ) → bit_and (v / 2 ^ (8 * k)) 255 ≡ v / 256 ^ k % 25
 byte_at v k = and_mask (v / 2 ^ (8 * k)) 8 ∙ ap (λ n. v / n % 256) (pow_bytes k)
 
 -- a truth value is a number of one byte
-pub bool_byte : (b : Bool) (rest : List ℕ) → number 1 (bool_byte b) rest ≡ bool b ∷ rest
-bool_byte true rest = refl
-bool_byte false rest = refl
+pub number-bool_byte : (b : Bool) (rest : List ℕ) → number 1 (bool_byte b) rest ≡ bool b ∷ rest
+number-bool_byte true rest = refl
+number-bool_byte false rest = refl

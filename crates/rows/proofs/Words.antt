@@ -1,9 +1,9 @@
 -- Bits of words: what `|`, `&`, `!` and a shift do to each. Assumes nothing.
-use Rattle.std.proofs.Common.{◌≡◌, ℕ, zero, suc, ◌+◌, ◌-◌, ◌*◌, ◌/◌, ◌%◌, ◌^◌, ◌<◌, ◌≤◌, ◌⊎◌, sym, refl, ap, ◌∙◌, inl, inr, ⊎_elim, mod-eq_of_lt, one-mul, arith}
+use Rattle.std.proofs.Common.{◌≡◌, ℕ, ◌+◌, ◌-◌, ◌*◌, ◌/◌, ◌%◌, ◌^◌, ◌<◌, ◌⊎◌, sym, ap, ◌∙◌, inl, inr, ⊎_elim, mod-eq_of_lt, one-mul, arith}
 use native.Mathlib.Nat.{mul-mod_left, div-eq_of_lt}
 use lib.Bits.{bit_and, bit_or, bit_xor, xor_add_and, and_comm, or_zero_r, and_zero_r}
 use lib.Pow.{ones_split, ones_lt, high}
-use Rattle.std.proofs.lemmas.Nat.{pow_pos, pow-add, pow_below, shl-shr, one_shl, and_shr, and_mod, or_shr, or_mod, xor_shr, xor_mod, and_mask, mod_below, mod_low}
+use Rattle.std.proofs.lemmas.Nat.{pow-add, pow_below, shl-shr, one_shl, and_shr, and_mod, or_shr, or_mod, xor_shr, xor_mod, and_mask, mod_below, mod_low}
 use Rattle.std.proofs.lemmas.Bool.{cases_order, cases_lt}
 
 abbrev pub word_bit : ℕ → ℕ → ℕ
@@ -15,14 +15,14 @@ bit_below w j = mod_below (w / 2 ^ j) 2 (omega arith)
 bit_cases : (b : ℕ) → b < 2 → (b ≡ 0) ⊎ (b ≡ 1)
 bit_cases b h = ⊎_elim (λ l. inl (omega arith)) (λ l. inr (omega arith)) (cases_lt b 1)
 
-bit_and : (v w j : ℕ) → word_bit (bit_and v w) j ≡ bit_and (word_bit v j) (word_bit w j)
-bit_and v w j = ap (λ n. n % 2) (and_shr v w j) ∙ and_mod (v / 2 ^ j) (w / 2 ^ j) 1
+word_bit-bit_and : (v w j : ℕ) → word_bit (bit_and v w) j ≡ bit_and (word_bit v j) (word_bit w j)
+word_bit-bit_and v w j = ap (λ n. n % 2) (and_shr v w j) ∙ and_mod (v / 2 ^ j) (w / 2 ^ j) 1
 
-bit_or : (v w j : ℕ) → word_bit (bit_or v w) j ≡ bit_or (word_bit v j) (word_bit w j)
-bit_or v w j = ap (λ n. n % 2) (or_shr v w j) ∙ or_mod (v / 2 ^ j) (w / 2 ^ j) 1
+word_bit-bit_or : (v w j : ℕ) → word_bit (bit_or v w) j ≡ bit_or (word_bit v j) (word_bit w j)
+word_bit-bit_or v w j = ap (λ n. n % 2) (or_shr v w j) ∙ or_mod (v / 2 ^ j) (w / 2 ^ j) 1
 
-bit-xor : (v w j : ℕ) → word_bit (bit_xor v w) j ≡ bit_xor (word_bit v j) (word_bit w j)
-bit-xor v w j = ap (λ n. n % 2) (xor_shr v w j) ∙ xor_mod (v / 2 ^ j) (w / 2 ^ j) 1
+word_bit-bit_xor : (v w j : ℕ) → word_bit (bit_xor v w) j ≡ bit_xor (word_bit v j) (word_bit w j)
+word_bit-bit_xor v w j = ap (λ n. n % 2) (xor_shr v w j) ∙ xor_mod (v / 2 ^ j) (w / 2 ^ j) 1
 
 -- of 2 ^ s
 bit_same : (s : ℕ) → word_bit (2 ^ s) s ≡ 1
@@ -62,7 +62,7 @@ not_xor w h =
 bit_not : (w j : ℕ) → w < 2 ^ 64 → j < 64 → word_bit (18446744073709551615 - w) j ≡ 1 - word_bit w j
 bit_not w j h l =
     let e : word_bit (18446744073709551615 - w) j ≡ bit_xor 1 (word_bit w j)
-    = ap (λ n. word_bit n j) (not_xor w h) ∙ bit-xor 18446744073709551615 w j ∙ ap (λ n. bit_xor n (word_bit w j)) (bit_ones j l) in
+    = ap (λ n. word_bit n j) (not_xor w h) ∙ word_bit-bit_xor 18446744073709551615 w j ∙ ap (λ n. bit_xor n (word_bit w j)) (bit_ones j l) in
     ⊎_elim (λ z. e ∙ ap (bit_xor 1) z ∙ sym (ap (λ n. 1 - n) z)) (λ z. e ∙ ap (bit_xor 1) z ∙ sym (ap (λ n. 1 - n) z)) (bit_cases (word_bit w j) (bit_below w j))
 
 -- `w | 1 << s` and `w & !(1 << s)`
@@ -75,23 +75,23 @@ module _ (w s : ℕ) (l : s < 64) where
 
   pub on_here : word_bit (bit_or w (mask s)) s ≡ 1
   on_here =
-      let e : word_bit (bit_or w (mask s)) s ≡ bit_or (word_bit w s) 1 = bit_or w (mask s) s ∙ ap (λ n. bit_or (word_bit w s) (word_bit n s)) is_mask ∙ ap (bit_or (word_bit w s)) (bit_same s) in
+      let e : word_bit (bit_or w (mask s)) s ≡ bit_or (word_bit w s) 1 = word_bit-bit_or w (mask s) s ∙ ap (λ n. bit_or (word_bit w s) (word_bit n s)) is_mask ∙ ap (bit_or (word_bit w s)) (bit_same s) in
       ⊎_elim (λ z. e ∙ ap (λ n. bit_or n 1) z) (λ z. e ∙ ap (λ n. bit_or n 1) z) (bit_cases (word_bit w s) (bit_below w s))
 
   pub on_other : (j : ℕ) → j < 64 → (j ≡ s → ⊥) → word_bit (bit_or w (mask s)) j ≡ word_bit w j
   on_other j k ne =
-      bit_or w (mask s) j ∙ ap (λ n. bit_or (word_bit w j) (word_bit n j)) is_mask ∙ ap (bit_or (word_bit w j)) (bit_other s j ne) ∙ or_zero_r (word_bit w j)
+      word_bit-bit_or w (mask s) j ∙ ap (λ n. bit_or (word_bit w j) (word_bit n j)) is_mask ∙ ap (bit_or (word_bit w j)) (bit_other s j ne) ∙ or_zero_r (word_bit w j)
 
   not_mask : (j : ℕ) → j < 64 → word_bit (18446744073709551615 - mask s) j ≡ 1 - word_bit (2 ^ s) j
   not_mask j k = bit_not (mask s) j (mod_below (1 * 2 ^ s) 18446744073709551616 (omega arith)) k ∙ ap (λ n. 1 - word_bit n j) is_mask
 
   pub off_here : word_bit (bit_and w (18446744073709551615 - mask s)) s ≡ 0
   off_here =
-      bit_and w (18446744073709551615 - mask s) s ∙ ap (bit_and (word_bit w s)) (not_mask s l ∙ ap (λ n. 1 - n) (bit_same s)) ∙ and_zero_r (word_bit w s)
+      word_bit-bit_and w (18446744073709551615 - mask s) s ∙ ap (bit_and (word_bit w s)) (not_mask s l ∙ ap (λ n. 1 - n) (bit_same s)) ∙ and_zero_r (word_bit w s)
 
   pub off_other : (j : ℕ) → j < 64 → (j ≡ s → ⊥) → word_bit (bit_and w (18446744073709551615 - mask s)) j ≡ word_bit w j
   off_other j k ne =
-      bit_and w (18446744073709551615 - mask s) j ∙ ap (bit_and (word_bit w j)) (not_mask j k ∙ ap (λ n. 1 - n) (bit_other s j ne)) ∙ and_one (word_bit w j) (bit_below w j)
+      word_bit-bit_and w (18446744073709551615 - mask s) j ∙ ap (bit_and (word_bit w j)) (not_mask j k ∙ ap (λ n. 1 - n) (bit_other s j ne)) ∙ and_one (word_bit w j) (bit_below w j)
     where
       and_one : (b : ℕ) → b < 2 → bit_and b 1 ≡ b
       and_one b h = and_mask b 1 ∙ mod-eq_of_lt h

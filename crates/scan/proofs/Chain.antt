@@ -1,9 +1,9 @@
 -- Reading one thing after another: what the parts read, the whole reads.
-use Rattle.std.proofs.Common.{◌≡◌, ℕ, ◌≤◌, List, [], ◌∷◌, length, get_or, drop, IsErrAnd, Ok, Err, Result, sym, refl, ap, ◌∙◌, subst, MatchResult}
+use Rattle.std.proofs.Common.{◌≡◌, ℕ, ◌≤◌, List, length, get_or, drop, IsErrAnd, Result, sym, refl, ap, ◌∙◌, subst, MatchResult}
 use Rattle.std.proofs.lemmas.Result.{err_from_is_err_and}
 use Rattle.std.proofs.lemmas.List.{get_or_past}
 use Rattle.format.specs.Read.{Read, got, failed, bind, read_number, read_tagged}
-use Rattle.scan.specs.Reads.{Took, Ceased, Failed, ceased, no_memory, Reads, Is}
+use Rattle.scan.specs.Reads.{Took, Failed, ceased, no_memory, Is}
 use Rattle.scan.specs.declared.fault.Fault.{Fault}
 use Rattle.scan.specs.declared.fault.Fault.TheVariants.{Memory, Garbled}
 

@@ -1,9 +1,9 @@
 -- Numbers from their bytes.
-use Rattle.std.proofs.Common.{◌≡◌, ℕ, suc, ◌+◌, ◌-◌, ◌*◌, ◌^◌, ◌<◌, ◌≤◌, cond, List, [], ◌∷◌, length, get_or, take, drop, sym, refl, ap, ◌∙◌, subst, pow-suc, add-one, arith, lit<}
+use Rattle.std.proofs.Common.{◌≡◌, ℕ, ◌+◌, ◌-◌, ◌*◌, ◌^◌, ◌<◌, ◌≤◌, cond, List, [], length, get_or, take, drop, sym, refl, ap, ◌∙◌, pow-suc, add-one, arith, lit<}
 use native.Mathlib.Nat.{pow-le-pow_right}
 use Rattle.std.proofs.lemmas.List.{drop-drop, drop_all, length-drop, at_drop_more, at_drop_all}
 use Rattle.std.proofs.lemmas.Bool.{le-leb, lt-leb}
-use Rattle.format.specs.Read.{Read, got, failed, bind, read_bytes, read_number, big_endian}
+use Rattle.format.specs.Read.{Read, got, failed, bind, read_bytes, big_endian}
 use Rattle.scan.specs.Reads.{Took, Ceased, Is}
 use Rattle.scan.proofs.Chain.{then_took}
 

@@ -1,10 +1,10 @@
 -- An expression goes over as its head and then its parts.
-use Rattle.std.proofs.Common.{◌≡◌, ℕ, zero, suc, ◌+◌, ◌≤◌, List, [], ◌∷◌, length, get_or, drop, sym, refl, ap, ◌∙◌, subst, add-suc, suc-add, zero-add, arith}
+use Rattle.std.proofs.Common.{◌≡◌, ℕ, zero, suc, ◌+◌, ◌≤◌, List, ◌∷◌, length, get_or, drop, sym, refl, ap, ◌∙◌, suc-add, zero-add, arith}
 use Rattle.model.specs.Parser.{Expr, header, bits, slice, join}
-use Rattle.format.specs.Read.{Read, got, failed, bind, read_number, read_row, read_many, read_tagged}
+use Rattle.format.specs.Read.{Read, got, failed, bind, read_number, read_row, read_many}
 use Rattle.format.specs.Format.{read_expr, expr_choices}
 use Rattle.format.proofs.Exprs.{read_expr-step}
-use Rattle.scan.specs.Reads.{Took, Ceased, Failed, ceased, no_memory, Is}
+use Rattle.scan.specs.Reads.{Took, Failed, ceased, no_memory, Is}
 use Rattle.scan.specs.Skim.{read_head, head_choices}
 use Rattle.scan.specs.declared.fault.Fault.{Fault}
 

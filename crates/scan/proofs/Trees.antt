@@ -1,11 +1,11 @@
 -- Reading an expression by its tag, and what is known of one by its tag alone.
-use Rattle.std.proofs.Common.{◌≡◌, ℕ, ◌≤◌, Bool, false, ◌&&◌, ◌⊎◌, List, [], ◌∷◌, length, get_or, drop, None, Option, sym, refl, ap, ◌∙◌, subst, ⊎_elim, arith}
-use Rattle.model.specs.Parser.{Expr, header, bits, slice, join}
+use Rattle.std.proofs.Common.{◌≡◌, ℕ, ◌≤◌, Bool, false, ◌⊎◌, List, length, get_or, drop, None, Option, sym, ap, ◌∙◌, subst, ⊎_elim, arith}
+use Rattle.model.specs.Parser.{Expr, slice, join}
 use Rattle.model.specs.Refusal.{shallow_expr}
-use Rattle.format.specs.Read.{Read, got, failed, bind, read_number, read_tagged}
-use Rattle.format.specs.Format.{read_expr, read_expr_by, expr_choices}
+use Rattle.format.specs.Read.{Read, got, failed, bind, read_number}
+use Rattle.format.specs.Format.{read_expr, expr_choices}
 use Rattle.format.proofs.Exprs.{read_expr-step}
-use Rattle.scan.specs.Reads.{Took, Ceased, Failed, ceased, no_memory, Is, Within}
+use Rattle.scan.specs.Reads.{Took, Failed, ceased, no_memory, Is, Within}
 use Rattle.scan.specs.declared.fault.Fault.{Fault}
 use Rattle.scan.specs.declared.fault.Fault.TheVariants.{Garbled}
 use Rattle.scan.proofs.Chain.{tag_took, tag_failed, no_tag, here_failed}

@@ -1,7 +1,6 @@
 -- What is known of a point: its target, and how many bits that needs. Assumes nothing.
 use Rattle.std.proofs.Common.{◌≡◌, ℕ, ◌<◌, true, ◌⊎◌, ap, subst, ⊎_elim}
 use Rattle.std.proofs.lemmas.Bool.{ltb-true}
-use Rattle.model.specs.Parser as M
 use Rattle.model.specs.Refusal.{named_target}
 use Rattle.model.specs.Config.{needs}
 use Rattle.syntax.specs.View.{target_of}

@@ -1,5 +1,5 @@
 -- What the types of the code mean in the model. Assumes nothing.
-use Rattle.std.specs.Prelude.{ℕ, List, [], ◌∷◌, map, vec_items, Vec}
+use Rattle.std.specs.Prelude.{ℕ, map, vec_items, Vec}
 use Rattle.std.specs.declared.alloc.Global.{Global}
 use Rattle.model.specs.Parser as M
 use Rattle.syntax.specs.declared.ast.Expr.{Expr}

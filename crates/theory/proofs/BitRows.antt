@@ -1,10 +1,10 @@
 -- Rows of bits as numbers, and back: of one row, of a store, and of a buffer.
-use Rattle.std.proofs.Common.{◌≡◌, ℕ, zero, suc, ◌+◌, ◌*◌, ◌/◌, ◌%◌, ◌^◌, ◌<◌, Bool, true, leb, List, [], ◌∷◌, ◌++◌, length, refl, ap, ◌∙◌, ap₂, not-suc-le-zero, pow-suc, arith}
+use Rattle.std.proofs.Common.{◌≡◌, ℕ, zero, suc, ◌+◌, ◌*◌, ◌/◌, ◌%◌, ◌^◌, ◌<◌, true, leb, List, [], ◌∷◌, length, refl, ap, ◌∙◌, ap₂, not-suc-le-zero, pow-suc, arith}
 use Rattle.std.proofs.lemmas.Nat.{pow_pos}
 use Rattle.std.proofs.lemmas.List.{length-append, take_at, drop_at}
-use Rattle.std.proofs.lemmas.Bool.{false≢true, ltb-true, eqb-true, lt-leb, and_parts, and_from, cond-false}
+use Rattle.std.proofs.lemmas.Bool.{false≢true, ltb-true, eqb-true, lt-leb, and_parts, cond-false}
 use Rattle.model.specs.Parser.{Bits, Store}
-use Rattle.model.specs.Refusal.{every, are_bits, sum, store_fits}
+use Rattle.model.specs.Refusal.{are_bits, sum, store_fits}
 use Rattle.model.proofs.Every.{every_append}
 use Rattle.theory.specs.Number.{bits_number, number_bits, joined, parted, buffer_number, number_buffer}
 

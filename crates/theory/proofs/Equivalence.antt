@@ -1,14 +1,14 @@
 -- Two parsers as two machines: equivalence is bisimulation, both ways and of three, and a difference is short.
-use Rattle.std.proofs.Common.{◌≡◌, ℕ, zero, suc, ◌+◌, ◌*◌, ◌<◌, ◌≤◌, Bool, true, false, cond, ◌&&◌, eqb, ltb, leb, List, [], ◌∷◌, ◌++◌, length, get_or, take, drop, sym, refl, ap, ◌∙◌, subst, ⊎_elim, arith}
+use Rattle.std.proofs.Common.{◌≡◌, ℕ, zero, suc, ◌+◌, ◌<◌, ◌≤◌, Bool, true, false, cond, eqb, leb, [], ◌∷◌, length, get_or, take, drop, sym, refl, ap, ◌∙◌, subst, ⊎_elim, arith}
 use Rattle.std.proofs.lemmas.List.{get_or_past}
 use Rattle.std.proofs.lemmas.Bool.{cases_lt, ltb-true, le-leb, eqb-true, eqb-false, and_parts}
-use Rattle.model.specs.Parser.{Bits, Target, state, accept, reject, State, Parser, Store, accepts, accepts_from, width, no_state, run_ops, select}
-use Rattle.model.specs.Refusal.{are_bits, store_fits, named_target, fault, widest}
-use Rattle.model.specs.Request.{Comparison, compare, refusal, everything, first_of, compare_fits}
-use Rattle.model.specs.Promise.{Equivalent, Distinguished, config_count}
-use Rattle.model.specs.Config.{Config, needs, transition, step, steps, is_accept, initial, Bisimulation}
-use Rattle.model.specs.Theory.{Initially, BitByBit, BisimilarIsEquivalent, EquivalentIsBisimilar, BothWays, ShortIsEnough}
-use Rattle.theory.specs.Machine.{Machine, run, Agree, Same, Numbered, Differ}
+use Rattle.model.specs.Parser.{Bits, state, reject, Parser, Store, accepts, accepts_from, width, no_state, run_ops, select}
+use Rattle.model.specs.Refusal.{are_bits, store_fits, fault}
+use Rattle.model.specs.Request.{Comparison, first_of, compare_fits}
+use Rattle.model.specs.Promise.{config_count}
+use Rattle.model.specs.Config.{Config, needs, transition, step, steps, is_accept, initial}
+use Rattle.model.specs.Theory.{BitByBit, BisimilarIsEquivalent, EquivalentIsBisimilar, BothWays, ShortIsEnough}
+use Rattle.theory.specs.Machine.{run, Agree, Numbered}
 use Rattle.theory.specs.Good.{machine, Good}
 use Rattle.theory.specs.Number.{config_number}
 use Rattle.theory.specs.Statement.{BisimilarIsEquivalentOf, AcceptAlike, AcceptingAlikeIsKept}

@@ -1,5 +1,5 @@
 -- A parser that is right stays in good configurations, so that its stores keep their sizes. Assumes nothing.
-use Rattle.std.proofs.Common.{◌≡◌, ℕ, ◌<◌, ◌≤◌, true, ltb, [], ◌∷◌, ◌++◌, length, get_or, sym, refl, subst, arith, lit<}
+use Rattle.std.proofs.Common.{◌≡◌, ℕ, ◌<◌, ◌≤◌, true, ltb, [], ◌∷◌, ◌++◌, length, get_or, sym, refl, subst, lit<}
 use Rattle.std.proofs.lemmas.Bool.{and_parts, and_from, ltb-true, ltb-false, lt-ltb, cond_both}
 use Rattle.model.specs.Parser.{Bits, Target, state, accept, reject, State, Parser, Store, run_ops, select, no_state}
 use Rattle.model.specs.Refusal.{are_bits, fault, named_target, store_fits, widest}

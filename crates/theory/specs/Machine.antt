@@ -1,5 +1,5 @@
 -- Deterministic machines over bits, and when two accept the same. Assumes nothing.
-use Rattle.std.specs.Prelude.{◌≡◌, ℕ, ◌*◌, ◌<◌, ◌≤◌, Bool, true, ◌⊎◌, List, [], ◌∷◌, length}
+use Rattle.std.specs.Prelude.{◌≡◌, ℕ, ◌<◌, Bool, true, ◌⊎◌, [], ◌∷◌, length}
 use Rattle.model.specs.Parser.{Bits}
 use Rattle.model.specs.Refusal.{are_bits}
 

@@ -1,5 +1,5 @@
 -- Configurations as numbers below `config_count`, and back. Assumes nothing.
-use Rattle.std.specs.Prelude.{ℕ, zero, suc, ◌+◌, ◌-◌, ◌*◌, ◌/◌, ◌%◌, ◌^◌, cond, List, [], ◌∷◌, ◌++◌, length, take, drop, ◌==◌, nat_le, nat_lt}
+use Rattle.std.specs.Prelude.{ℕ, zero, suc, ◌+◌, ◌*◌, ◌/◌, ◌%◌, ◌^◌, cond, List, [], ◌∷◌, ◌++◌, length, take, drop, ◌==◌, nat_le, nat_lt}
 use Rattle.model.specs.Parser.{Bits, Target, state, accept, reject, Parser, Store}
 use Rattle.model.specs.Refusal.{sum, widest}
 use Rattle.model.specs.Config.{Config}

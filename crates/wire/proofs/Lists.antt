@@ -1,11 +1,11 @@
 -- Reading a list: what was read so far, and what is left.
-use Rattle.std.proofs.Common.{◌≡◌, ℕ, zero, suc, ◌+◌, ◌-◌, ◌<◌, ◌≤◌, Bool, List, [], ◌∷◌, ◌++◌, map, length, drop, Some, None, vec_items, Option, Vec, sym, refl, ap, ◌∙◌, subst, arith}
+use Rattle.std.proofs.Common.{◌≡◌, ℕ, suc, ◌+◌, ◌-◌, ◌<◌, ◌≤◌, Bool, List, [], ◌∷◌, ◌++◌, map, length, drop, Some, None, vec_items, Option, Vec, sym, refl, ap, ◌∙◌, subst, arith}
 use Rattle.std.specs.Option.{option_map}
 use Rattle.std.specs.declared.alloc.Global.{Global}
 use Rattle.std.proofs.lemmas.List.{append_assoc, append-nil, map_push}
 use Rattle.model.proofs.Every.{every_front, every_last}
 use Rattle.format.specs.Read.{Read, got, failed, bind, read_number, read_many, read_counted}
-use Rattle.scan.specs.Reads.{Took, Ceased, Failed, ceased, no_memory, Is, Within}
+use Rattle.scan.specs.Reads.{Took, Failed, ceased, no_memory, Is, Within}
 use Rattle.scan.proofs.Chain.{then_took, then_failed}
 use Rattle.scan.specs.declared.fault.Fault.{Fault}
 use Rattle.wire.specs.Kept.{EachWithin, appended}

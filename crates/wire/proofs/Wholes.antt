@@ -1,14 +1,14 @@
 -- A request that takes all bytes, and where they cease to be one.
-use Rattle.std.proofs.Common.{◌≡◌, ℕ, suc, ◌+◌, ◌-◌, ◌<◌, ◌≤◌, Bool, true, false, cond, leb, List, [], ◌∷◌, length, get_or, take, drop, IsErrAnd, Result, sym, refl, ap, ◌∙◌, subst, arith, MatchResult}
+use Rattle.std.proofs.Common.{◌≡◌, ℕ, suc, ◌+◌, ◌-◌, ◌<◌, ◌≤◌, cond, List, [], ◌∷◌, length, get_or, take, drop, IsErrAnd, Result, sym, ap, ◌∙◌, subst, arith, MatchResult}
 use Rattle.std.proofs.lemmas.List.{drop_all, drop_more, length-drop, length-take-le}
 use Rattle.std.proofs.lemmas.Result.{err_from_is_err_and}
 use Rattle.std.proofs.lemmas.Bool.{le-leb, lt-leb}
 use Rattle.model.specs.Parser.{Parser}
 use Rattle.model.specs.Request as M
 use Rattle.model.specs.Request.{garbled, parse, compare}
-use Rattle.format.specs.Read.{Read, got, failed}
+use Rattle.format.specs.Read.{Read, got}
 use Rattle.format.specs.Format.{read_request, whole, too_long, asked_from}
-use Rattle.scan.specs.Reads.{Took, Ceased, Failed, ceased, no_memory}
+use Rattle.scan.specs.Reads.{Took, Failed, ceased, no_memory}
 use Rattle.scan.specs.declared.fault.Fault.{Fault}
 use Rattle.scan.specs.declared.fault.Fault.TheVariants.{Memory, Garbled}
 use Rattle.wire.specs.Asked.{Stands, Unasked}

@@ -1,5 +1,5 @@
 -- What a request of the code stands for, and a fault. Assumes nothing.
-use Rattle.std.specs.Prelude.{◌≡◌, ℕ, vec_items}
+use Rattle.std.specs.Prelude.{◌≡◌, vec_items}
 use Rattle.model.specs.Parser.{Parser, Store}
 use Rattle.model.specs.Request as M
 use Rattle.model.specs.Request.{parse, compare, garbled}

@@ -1,5 +1,5 @@
 -- What a list that was read means. Assumes nothing.
-use Rattle.std.specs.Prelude.{ℕ, Bool, List, [], ◌∷◌, ◌++◌, map, Some, None, vec_items, Option, Vec}
+use Rattle.std.specs.Prelude.{Bool, List, [], ◌∷◌, ◌++◌, map, Some, None, vec_items, Option, Vec}
 use Rattle.std.specs.declared.alloc.Global.{Global}
 use Rattle.model.specs.Parser.{Parser}
 use Rattle.model.specs.Refusal.{every, shallow_state}

@@ -1,4 +1,4 @@
-use Rattle.std.proofs.Common.{◌≡◌, length, sym, ap, ◌∙◌, subst}
+use Rattle.std.proofs.Common.{length, sym, subst}
 use Rattle.model.specs.Request.{lent, everything}
 use Rattle.model.specs.Promise.{Promised}
 use Rattle.format.specs.Format.{asked_from}
@@ -13,7 +13,7 @@ returns-in-Ok-2 c =
     let room = c.args.room.now in
     let room' = c.settle.new.room in
     let stands = c.in-Ok.ensures in
-    settled_answer q (stands_kind c.in-Ok.asked q stands) room room' c.in-Ok-2.answer (subst (λ s. Settled q room room' s) c.in-Ok-2.is (c.in-ok-answer.ensures q stands))
+    settled_answer q (stands_kind c.in-Ok.asked q stands) room room' c.in-Ok-2.answer (subst (λ s. Settled q room room' s) c.in-Ok-2.is (c.in_ok-answer.ensures q stands))
 
 pub returns-in-Err : goal.returns-in-Err
 returns-in-Err c =
@@ -22,4 +22,4 @@ returns-in-Err c =
     let room' = c.settle.new.room in
     let stands = c.in-Ok.ensures in
     subst (λ a. Promised everything (lent (length room) q) (answer_of room' a)) (sym c.refuse-in-Err.ensures)
-    (settled_refused q (stands_kind c.in-Ok.asked q stands) room room' c.in-Err.refusal (subst (λ s. Settled q room room' s) c.in-Err.is (c.in-ok-answer.ensures q stands)))
+    (settled_refused q (stands_kind c.in-Ok.asked q stands) room room' c.in-Err.refusal (subst (λ s. Settled q room room' s) c.in-Err.is (c.in_ok-answer.ensures q stands)))

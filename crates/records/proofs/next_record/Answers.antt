@@ -1,10 +1,9 @@
-use Rattle.std.proofs.Common.{◌≡◌, ◌+◌, ◌<◌, ◌≤◌, length, ⊎_elim, arith, rules}
-use Rattle.std.proofs.lemmas.Bool.{cases_lt, both_ways}
+use Rattle.std.proofs.Common.{◌+◌, ◌<◌, length, arith, rules}
 use Rattle.records.proofs.Files.{found, found_cut, found_end}
 use Rattle.records.proofs.next_record.Goals as goal
 
-pub returns-in-default : goal.returns-in-default
-returns-in-default c =
+pub returns-in_default : goal.returns-in_default
+returns-in_default c =
     let few : length c.args.file.now < c.args.at + 4 = search rules in
     found_end c.args.file.now c.args.at (omega arith) few
 

@@ -6,4 +6,4 @@ pub returns-then-word-eq0 : goal.returns-then-word-eq0
 returns-then-word-eq0 c = lowest_none c.args.room.now c.args.base c.args.k c.if-word-eq0.true
 
 pub returns-else-word-eq0 : goal.returns-else-word-eq0
-returns-else-word-eq0 c = lowest_some c.args.room.now c.args.base c.args.k c.if-word-eq0.false (omega (arith, c.type-inv.room (c.args.base + c.args.k / 64)))
+returns-else-word-eq0 c = lowest_some c.args.room.now c.args.base c.args.k c.if-word-eq0.false (omega (arith, c.type_inv.room (c.args.base + c.args.k / 64)))

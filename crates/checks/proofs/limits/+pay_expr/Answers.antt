@@ -3,5 +3,5 @@ use Rattle.syntax.specs.View.{expr_of}
 use Rattle.checks.proofs.Within.{parts_positive}
 use Rattle.checks.proofs.limits.+pay_expr.Goals as goal
 
-pub returns-in-err-left : goal.returns-in-err-left
-returns-in-err-left t c = rw c.from-residual.ensures (omega (arith, c.in-err-left.ensures, parts_positive (expr_of c.args.e.now)))
+pub returns-in_err-left : goal.returns-in_err-left
+returns-in_err-left t c = rw c.from_residual.ensures (omega (arith, c.in_err-left.ensures, parts_positive (expr_of c.args.e.now)))

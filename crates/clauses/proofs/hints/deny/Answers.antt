@@ -1,13 +1,12 @@
-use Rattle.std.proofs.Common.{◌≡◌, ◌+◌, ◌<◌, length, get_or, subst, inl, inr, ⊎_elim, arith}
+use Rattle.std.proofs.Common.{◌+◌, ◌<◌, length, get_or, subst, inl, inr, ⊎_elim, arith}
 use Rattle.clauses.specs.Known.{Fits}
 use Rattle.clauses.specs.Steps.{After}
-use Rattle.clauses.specs.declared.trail.End.TheVariants.{More, Done, Refused, Exhausted}
 use Rattle.clauses.proofs.Parts.{sat_up}
 use Rattle.clauses.proofs.Denied.{deny_more}
 use Rattle.clauses.proofs.hints.deny.Goals as goal
 
-pub returns-in-default : goal.returns-in-default
-returns-in-default c =
+pub returns-in_default : goal.returns-in_default
+returns-in_default c =
     let numbers = c.args.numbers.now in
     let rep = c.args.rep.now in
     let a = c.args.s + 1 in

@@ -1,4 +1,4 @@
-use Rattle.std.proofs.Common.{◌≡◌, ◌+◌, ◌-◌, ◌*◌, ◌≤◌, length, get_or, sym, ap, ◌∙◌, subst, ⊎_elim, arith, rules}
+use Rattle.std.proofs.Common.{get_or, subst, ⊎_elim, arith, rules}
 use Rattle.clauses.specs.Steps.{After}
 use Rattle.clauses.specs.Clauses.{Stands}
 use Rattle.clauses.proofs.Ends.{yes_not_out, no_not_out}
@@ -9,9 +9,9 @@ use Rattle.clauses.proofs.hints.follows_by.Goals as goal
 pub returns-in-Done : goal.returns-in-Done
 returns-in-Done c =
     let k = c.refute-run.ensures.kept in
-    let h = c.args.hints-at in
+    let h = c.args.hints_at in
     let n = get_or c.args.numbers.now h 0 in
-    let stands : Stands c.args.numbers.now c.args.hints-at = c.stands.ensures c.if-not-stands.false in
+    let stands : Stands c.args.numbers.now c.args.hints_at = c.stands.ensures c.if-not-stands.false in
     record {
       sound = λ _ v fits all. ⊎_elim
           (λ sat. sat)
@@ -27,9 +27,9 @@ returns-in-Done c =
 pub returns-in-Exhausted : goal.returns-in-Exhausted
 returns-in-Exhausted c =
     let k = c.refute-run.ensures.kept in
-    let h = c.args.hints-at in
+    let h = c.args.hints_at in
     let n = get_or c.args.numbers.now h 0 in
-    let stands : Stands c.args.numbers.now c.args.hints-at = c.stands.ensures c.if-not-stands.false in
+    let stands : Stands c.args.numbers.now c.args.hints_at = c.stands.ensures c.if-not-stands.false in
     record {
       sound = search rules;
       same = undone_same _ _ _ _ _ _ _ c.requires.1 k c.undo.ensures;
@@ -39,12 +39,12 @@ returns-in-Exhausted c =
       spent = spent_up _ _ _ _ _ _ c.refute-run.ensures.spent (mul_hints h n c.args.most) (λ _. c.in-Exhausted.is);
     }
 
-pub returns-in-default : goal.returns-in-default
-returns-in-default c =
+pub returns-in_default : goal.returns-in_default
+returns-in_default c =
     let k = c.refute-run.ensures.kept in
-    let h = c.args.hints-at in
+    let h = c.args.hints_at in
     let n = get_or c.args.numbers.now h 0 in
-    let stands : Stands c.args.numbers.now c.args.hints-at = c.stands.ensures c.if-not-stands.false in
+    let stands : Stands c.args.numbers.now c.args.hints_at = c.stands.ensures c.if-not-stands.false in
     record {
       sound = search rules;
       same = undone_same _ _ _ _ _ _ _ c.requires.1 k c.undo.ensures;

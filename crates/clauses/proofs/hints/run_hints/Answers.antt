@@ -1,10 +1,10 @@
-use Rattle.std.proofs.Common.{◌≡◌, ◌+◌, ◌*◌, ◌<◌, ◌≤◌, get_or, subst, mul-le-mul_right, arith}
+use Rattle.std.proofs.Common.{◌+◌, ◌*◌, ◌≤◌, get_or, subst, mul-le-mul_right, arith}
 use Rattle.clauses.specs.Steps.{After}
 use Rattle.clauses.proofs.Spending.{spent_both, mul_more}
 use Rattle.clauses.proofs.hints.run_hints.Goals as goal
 
-pub returns-in-default : goal.returns-in-default
-returns-in-default c =
+pub returns-in_default : goal.returns-in_default
+returns-in_default c =
     let m = c.args.most in
     let k = c.loop-k.k in
     let last : c.loop-k.k + 1 ≤ get_or c.args.numbers.now c.args.h 0 = omega arith in

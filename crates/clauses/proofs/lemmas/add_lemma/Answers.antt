@@ -1,4 +1,4 @@
-use Rattle.std.proofs.Common.{◌≡◌, ◌+◌, ◌≤◌, length, get_or, set, sym, refl, subst, arith, length-set}
+use Rattle.std.proofs.Common.{◌+◌, get_or, set, sym, refl, subst, arith, length-set}
 use Rattle.std.proofs.lemmas.List.{take-set}
 use Rattle.clauses.specs.Clauses.{Stands, premises}
 use Rattle.clauses.specs.Known.{Fits}
@@ -9,8 +9,8 @@ use Rattle.clauses.proofs.Spending.{spent_from}
 use Rattle.clauses.proofs.Trails.{kept_deep}
 use Rattle.clauses.proofs.lemmas.add_lemma.Goals as goal
 
-pub overflow-add-result : goal.overflow-add-result
-overflow-add-result c = omega (arith, c.if-count-starts.false)
+pub overflow_add-result : goal.overflow_add-result
+overflow_add-result c = omega (arith, c.if-count-starts.false)
 
 pub returns-in-Yes : goal.returns-in-Yes
 returns-in-Yes c =
@@ -19,7 +19,7 @@ returns-in-Yes c =
     let n = c.args.count in
     let at = c.args.at in
     let h = c.args.at + 1 + get_or c.args.numbers.now c.args.at 0 in
-    let f = c.follows-by-shown in
+    let f = c.follows_by-shown in
     let stands : Stands c.args.numbers.now c.args.at = c.stands.ensures c.if-not-stands.false in
     record {
       kept = λ before base t. c.settle-step.ensures.kept before base (f.ensures.kept before base t);
@@ -40,7 +40,7 @@ pub returns-in-No : goal.returns-in-No
 returns-in-No c =
     let at = c.args.at in
     let h = c.args.at + 1 + get_or c.args.numbers.now c.args.at 0 in
-    let f = c.follows-by-shown in
+    let f = c.follows_by-shown in
     let stands : Stands c.args.numbers.now c.args.at = c.stands.ensures c.if-not-stands.false in
     record {
       kept = f.ensures.kept;
@@ -58,7 +58,7 @@ pub returns-in-Exhausted : goal.returns-in-Exhausted
 returns-in-Exhausted c =
     let at = c.args.at in
     let h = c.args.at + 1 + get_or c.args.numbers.now c.args.at 0 in
-    let f = c.follows-by-shown in
+    let f = c.follows_by-shown in
     let stands : Stands c.args.numbers.now c.args.at = c.stands.ensures c.if-not-stands.false in
     record {
       kept = f.ensures.kept;

@@ -5,5 +5,5 @@ use Rattle.clauses.proofs.lemmas.add_lemmas.Given as goal
 
 abbrev pub invariant-loop : goal.invariant-loop
 invariant-loop l =
-    Grown l.numbers l.rep l.most l.initial.starts l.initial.value l.initial.trail l.count l.depth l.at l.work l.starts l.value l.trail l.so-far
-    × (l.so-far.end ≡ More)
+    Grown l.numbers l.rep l.most l.initial.starts l.initial.value l.initial.trail l.count l.depth l.at l.work l.starts l.value l.trail l.so_far
+    × (l.so_far.end ≡ More)

@@ -1,5 +1,4 @@
-use Rattle.std.proofs.Common.{◌≡◌, ◌+◌, ◌/◌, length, get_or, sym, subst}
-use Rattle.clauses.specs.Clauses.{part}
+use Rattle.std.proofs.Common.{◌/◌, subst}
 use Rattle.clauses.specs.Known.{Resolved, Looked}
 use Rattle.clauses.proofs.Looks.{join_known, join_first, join_again}
 use Rattle.clauses.proofs.look.join.Goals as goal

@@ -1,4 +1,4 @@
-use Rattle.std.proofs.Common.{◌≡◌, ◌+◌, ◌/◌, ◌%◌, ◌<◌, length, get_or, sym, refl, subst, arith}
+use Rattle.std.proofs.Common.{◌+◌, ◌<◌, length, get_or, sym, refl, subst, arith}
 use Rattle.clauses.specs.Known.{Looked}
 use Rattle.clauses.proofs.Parts.{sat_none, part_more}
 use Rattle.clauses.proofs.look.look_at.Goals as goal

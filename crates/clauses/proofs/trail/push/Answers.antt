@@ -1,4 +1,4 @@
-use Rattle.std.proofs.Common.{◌<◌, length, arith}
+use Rattle.std.proofs.Common.{arith}
 use Rattle.clauses.proofs.Trails.{fits-set, trailed_push}
 use Rattle.clauses.proofs.Ends.{more_not_out}
 use Rattle.clauses.proofs.trail.push.Goals as goal

@@ -1,4 +1,4 @@
-use Rattle.std.proofs.Common.{ℕ, ◌-◌, ◌≤◌, List, length}
+use Rattle.std.proofs.Common.{ℕ, ◌≤◌, List, length}
 use Rattle.clauses.specs.Known.{Trailed}
 use Rattle.clauses.proofs.trail.undo.Given as goal
 

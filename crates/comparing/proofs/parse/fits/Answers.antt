@@ -1,4 +1,4 @@
-use Rattle.std.proofs.Common.{length, vec_items, sym, ap, ◌∙◌, arith}
+use Rattle.std.proofs.Common.{vec_items, ap, ◌∙◌, arith}
 use Rattle.std.proofs.lemmas.List.{length-map}
 use Rattle.std.proofs.lemmas.Bool.{lt-ltb}
 use Rattle.model.specs.Refusal.{store_fits}
@@ -12,9 +12,9 @@ returns-then-start-len c =
     no_such_state (parser_of p) (store_of c.args.headers.now) c.args.start c.args.input.now
     (omega (arith, c.if-start-len.true, c.len.ensures, p.states.ok.0, length-map (vec_items p.states) state_of))
 
-pub returns-then-are-bits : goal.returns-then-are-bits
-returns-then-are-bits c =
+pub returns-then-are_bits : goal.returns-then-are_bits
+returns-then-are_bits c =
     let p = c.args.checked.now.parser in
     by_length (parser_of p) (store_of c.args.headers.now) c.args.start c.args.input.now
     (lt-ltb _ _ (omega (arith, c.if-start-len.false, c.len.ensures, p.states.ok.0, length-map (vec_items p.states) state_of)))
-    (c.if-not-store-fits.ensures ∙ ap (λ ns. store_fits ns (store_of c.args.headers.now)) c.as_slice.ensures.value) c.if-are-bits.ensures
+    (c.if-not-store_fits.ensures ∙ ap (λ ns. store_fits ns (store_of c.args.headers.now)) c.as_slice.ensures.value) c.if-are_bits.ensures

@@ -6,9 +6,9 @@ use Rattle.entails.proofs.evaluate.holds.Goals as goal
 
 pub returns : goal.returns
 returns c =
-    let b = c.bit-at.result in
+    let b = c.bit_at.result in
     let l = c.args.l in
     record {
-      right = λ t. holds_right b l (says c.args.value.now) c.bit-at.ensures (eqb-false b (l % 2) (not-true _ t));
-      wrong = λ t. holds_wrong b l (says c.args.value.now) c.bit-at.ensures (eqb-true b (l % 2) (not-false _ t));
+      right = λ t. holds_right b l (says c.args.value.now) c.bit_at.ensures (eqb-false b (l % 2) (not-true _ t));
+      wrong = λ t. holds_wrong b l (says c.args.value.now) c.bit_at.ensures (eqb-true b (l % 2) (not-false _ t));
     }

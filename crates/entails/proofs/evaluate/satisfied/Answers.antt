@@ -1,4 +1,4 @@
-use Rattle.std.proofs.Common.{◌+◌, ◌<◌, length, get_or, ⊎_elim, arith, rules}
+use Rattle.std.proofs.Common.{◌+◌, get_or, ⊎_elim, arith, rules}
 use Rattle.entails.specs.Answers.{says}
 use Rattle.clauses.proofs.Parts.{sat_at, sat_more, sat_none}
 use Rattle.entails.proofs.evaluate.satisfied.Goals as goal

@@ -1,4 +1,4 @@
-use Rattle.std.proofs.Common.{ℕ, ◌+◌}
+use Rattle.std.proofs.Common.{◌+◌}
 use Rattle.clauses.specs.Clauses.{Sat, part}
 use Rattle.entails.specs.Answers.{says}
 use Rattle.entails.proofs.evaluate.satisfied.Given as goal

@@ -1,4 +1,4 @@
-use Rattle.std.proofs.Common.{◌≡◌, ℕ, ◌≤◌, true, List, map, vec_items, sym, ap, ◌∙◌, subst, ap₂}
+use Rattle.std.proofs.Common.{◌≤◌, map, vec_items, sym, ap, ◌∙◌, subst, ap₂}
 use mathlib.Core.List.{map-map}
 use Rattle.model.specs.Parser.{width, ops_width}
 use Rattle.model.specs.Refusal.{every, named_op}
@@ -7,8 +7,8 @@ use Rattle.machine.proofs.Facts.{sound_read}
 use Rattle.machine.proofs.Ready.{made_more, made_all}
 use Rattle.machine.proofs.machine.count.Goals as goal
 
-pub count-ops-requires : goal.count-ops-requires
-count-ops-requires c =
+pub count_ops-requires : goal.count_ops-requires
+count_ops-requires c =
     let ok = sound_read c.args.checked.now c.deref-state-items.ensures.value c.loop-state-test.true c.state-item.is in
     record {
       named = ap₂ (λ ns os. every (named_op ns) (map op_of os)) c.deref-in-loop-state.ensures.value c.deref.ensures.value ∙ ok.named_ops;
@@ -17,8 +17,8 @@ count-ops-requires c =
 
 pub loop-state-preserved : goal.loop-state-preserved
 loop-state-preserved c =
-    made_more c.loop-state.invariant c.loop-state-test.true c.state-item.is c.in-ok-push.ensures.items
-    (c.count-ops.ensures ∙ ap₂ (λ ns os. ops_width ns (map op_of os)) c.deref-in-loop-state.ensures.value c.deref.ensures.value)
+    made_more c.loop-state.invariant c.loop-state-test.true c.state-item.is c.in_ok-push.ensures.items
+    (c.count_ops.ensures ∙ ap₂ (λ ns os. ops_width ns (map op_of os)) c.deref-in-loop-state.ensures.value c.deref.ensures.value)
 
 pub returns : goal.returns
 returns c =

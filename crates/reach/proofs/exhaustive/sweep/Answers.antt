@@ -8,10 +8,10 @@ pub seed-requires : goal.seed-requires
 seed-requires g c =
     let m = g.S.System.model c.args.system.now in
     let count = c.count-count.ensures in
-    let laid = placed m c.count-count.result c.table_words.result c.args.gap c.plan-for-plan.result count.value count.small c.plan-for-plan.ensures c.table_words.ensures in
+    let laid = placed m c.count-count.result c.table_words.result c.args.gap c.plan_for-plan.result count.value count.small c.plan_for-plan.ensures c.table_words.ensures in
     let fits : c.table_words.result + c.args.gap ≤ length c.clear.new.room = omega (arith, c.if-room-at.false, c.clear.auto.room) in
     record {
-      laid = laid_more m.count c.plan-for-plan.result (c.table_words.result + c.args.gap) (length c.clear.new.room) laid fits;
+      laid = laid_more m.count c.plan_for-plan.result (c.table_words.result + c.args.gap) (length c.clear.new.room) laid fits;
       zeros = c.in-Some.ensures.0;
     }
 
@@ -20,7 +20,7 @@ pursue-requires g c =
     let m = g.S.System.model c.args.system.now in
     let count = c.count-count.ensures in
     record {
-      laid = placed m c.count-count.result c.table_words.result c.args.gap c.plan-for-plan.result count.value count.small c.plan-for-plan.ensures c.table_words.ensures;
+      laid = placed m c.count-count.result c.table_words.result c.args.gap c.plan_for-plan.result count.value count.small c.plan_for-plan.ensures c.table_words.ensures;
       fits = omega (arith, c.if-room-at.false, c.clear.auto.room, c.seed.auto.room);
       seeded = c.in-Through.ensures.0;
     }
@@ -30,7 +30,7 @@ report-requires g c =
     let m = g.S.System.model c.args.system.now in
     let count = c.count-count.ensures in
     record {
-      laid = placed m c.count-count.result c.table_words.result c.args.gap c.plan-for-plan.result count.value count.small c.plan-for-plan.ensures c.table_words.ensures;
+      laid = placed m c.count-count.result c.table_words.result c.args.gap c.plan_for-plan.result count.value count.small c.plan_for-plan.ensures c.table_words.ensures;
       fits = omega (arith, c.if-room-at.false, c.clear.auto.room, c.seed.auto.room);
       caught = c.in-Bad.ensures.0;
     }
@@ -38,9 +38,9 @@ report-requires g c =
 pub returns-in-Through : goal.returns-in-Through
 returns-in-Through g c =
     let m = g.S.System.model c.args.system.now in
-    let p = c.plan-for-plan.result in
+    let p = c.plan_for-plan.result in
     let count = c.count-count.ensures in
-    let words : c.plan-for-plan.result.words ≡ ((g.S.System.model c.args.system.now).count + 63) / 64 = ap (λ q. q.words) c.plan-for-plan.ensures ∙ ap sets_words count.value in
+    let words : c.plan_for-plan.result.words ≡ ((g.S.System.model c.args.system.now).count + 63) / 64 = ap (λ q. q.words) c.plan_for-plan.ensures ∙ ap sets_words count.value in
     let cleared = c.in-Some.ensures.1 in
     let seeded = c.in-Through.ensures.1 in
     record {
@@ -51,9 +51,9 @@ returns-in-Through g c =
 pub returns-in-Bad : goal.returns-in-Bad
 returns-in-Bad g c =
     let m = g.S.System.model c.args.system.now in
-    let p = c.plan-for-plan.result in
+    let p = c.plan_for-plan.result in
     let count = c.count-count.ensures in
-    let words : c.plan-for-plan.result.words ≡ ((g.S.System.model c.args.system.now).count + 63) / 64 = ap (λ q. q.words) c.plan-for-plan.ensures ∙ ap sets_words count.value in
+    let words : c.plan_for-plan.result.words ≡ ((g.S.System.model c.args.system.now).count + 63) / 64 = ap (λ q. q.words) c.plan_for-plan.ensures ∙ ap sets_words count.value in
     let cleared = c.in-Some.ensures.1 in
     let seeded = c.in-Bad.ensures.1 in
     record {

@@ -1,5 +1,5 @@
 use Rattle.std.proofs.Common.{◌≡◌, ◌+◌, ◌-◌, ◌*◌, ◌/◌, ◌%◌, ◌<◌, ◌≤◌, true, false, not, length, sym, ap, ◌∙◌, subst, arith}
-use Rattle.reach.specs.Tables.{Laid, seen}
+use Rattle.reach.specs.Tables.{Laid}
 use Rattle.reach.specs.Phases.{Going}
 use Rattle.reach.proofs.Explorations.{safe, seen_read, odd_read, explore_known, explore_fresh, explore_bad}
 use Rattle.reach.proofs.explore.explore.Goals as goal

@@ -1,5 +1,5 @@
-use Rattle.std.proofs.Common.{◌≡◌, ◌+◌, ◌-◌, ◌<◌, ◌≤◌, true, false, length, sym, ap, ◌∙◌, subst, arith}
-use Rattle.reach.specs.Tables.{Laid, seen}
+use Rattle.std.proofs.Common.{◌≡◌, ◌+◌, ◌-◌, ◌<◌, ◌≤◌, true, false, length, sym, subst, arith}
+use Rattle.reach.specs.Tables.{Laid}
 use Rattle.reach.specs.Phases.{Going}
 use Rattle.reach.proofs.Turns.{going_none}
 use Rattle.reach.proofs.Explorations.{seen_read, seed_known, seed_fresh, seed_bad, seed_all}

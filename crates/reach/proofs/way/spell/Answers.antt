@@ -1,6 +1,5 @@
-use Rattle.std.proofs.Common.{◌≡◌, suc, ◌+◌, ◌-◌, ◌*◌, ◌/◌, ◌<◌, ◌≤◌, length, sym, ap, ◌∙◌, arith}
+use Rattle.std.proofs.Common.{◌≡◌, ◌+◌, ◌/◌, ◌<◌, ◌≤◌, length, arith}
 use Rattle.std.proofs.lemmas.List.{get_or-set_same}
-use Rattle.rows.specs.Lowest.{Zeros, LowestOne}
 use Rattle.reach.proofs.Entries.{laid_more}
 use Rattle.reach.proofs.Messages.{spelling_first, within_way, spelling_skip, spelling_take, spelling_all}
 use Rattle.reach.proofs.way.spell.Goals as goal

@@ -1,4 +1,4 @@
-use Rattle.std.proofs.Common.{◌≡◌, ◌+◌, ◌/◌, ◌≤◌}
+use Rattle.std.proofs.Common.{◌+◌, ◌/◌, ◌≤◌}
 use Rattle.reach.specs.Tracing.{Spelling}
 use Rattle.reach.proofs.way.spell.Given as goal
 

@@ -12,24 +12,24 @@ loop-k-init g c =
     let mark = marked_put p c.args.room.now c.put.new.room c.args.last inside (record { here = put.here; others = put.others; rest = put.rest }) in
     (trace_first m p c.args.room.now c.put.new.room c.args.roots c.args.last c.requires.caught mark, omega arith)
 
-pub overflow-sub-j : goal.overflow-sub-j
-overflow-sub-j g c =
+pub overflow_sub-j : goal.overflow_sub-j
+overflow_sub-j g c =
     let m = g.S.System.model c.args.system.now in
     let p = c.args.plan in
     let room = c.loop-k.room in
     parent_below m (seen p room) (odd_in p room) (entry p room) c.args.roots c.args.last (path p room) c.loop-k.k c.loop-k.j c.loop-k.invariant.0 c.loop-k-test.true
 
-pub loop-k-preserved-then-is-parent : goal.loop-k-preserved-then-is-parent
-loop-k-preserved-then-is-parent g c =
+pub loop-k-preserved-then-is_parent : goal.loop-k-preserved-then-is_parent
+loop-k-preserved-then-is_parent g c =
     let m = g.S.System.model c.args.system.now in
     let p = c.args.plan in
     let room = c.loop-k.room in
-    let put = c.put-then-is-parent.ensures in
+    let put = c.put-then-is_parent.ensures in
     let some = parent_below m (seen p room) (odd_in p room) (entry p room) c.args.roots c.args.last (path p room) c.loop-k.k c.loop-k.j c.loop-k.invariant.0 c.loop-k-test.true in
     let inside : c.loop-k.j - 1 < 64 * c.args.plan.words = omega (arith, c.loop-k.invariant.0.held.spare, c.loop-k.invariant.0.order, c.loop-k.invariant.0.under, c.requires.laid.wide) in
-    let mark = marked_put p room c.put-then-is-parent.new.room (c.loop-k.j - 1) inside (record { here = put.here; others = put.others; rest = put.rest }) in
+    let mark = marked_put p room c.put-then-is_parent.new.room (c.loop-k.j - 1) inside (record { here = put.here; others = put.others; rest = put.rest }) in
     let spent : c.loop-k.left - 1 + c.args.last ≡ c.args.work + (c.loop-k.j - 1) = omega (arith, some, c.loop-k.invariant.1) in
-    (trace_step m p room c.put-then-is-parent.new.room c.args.roots c.args.last c.loop-k.k c.loop-k.j c.loop-k.invariant.0 some (sym c.if-is-parent.ensures) mark, spent)
+    (trace_step m p room c.put-then-is_parent.new.room c.args.roots c.args.last c.loop-k.k c.loop-k.j c.loop-k.invariant.0 some (sym c.if-is_parent.ensures) mark, spent)
 
 pub loop-k-preserved : goal.loop-k-preserved
 loop-k-preserved g c =
@@ -38,7 +38,7 @@ loop-k-preserved g c =
     let room = c.loop-k.room in
     let some = parent_below m (seen p room) (odd_in p room) (entry p room) c.args.roots c.args.last (path p room) c.loop-k.k c.loop-k.j c.loop-k.invariant.0 c.loop-k-test.true in
     let spent : c.loop-k.left - 1 + c.args.last ≡ c.args.work + (c.loop-k.j - 1) = omega (arith, some, c.loop-k.invariant.1) in
-    (tracing_past m (seen p room) (odd_in p room) (entry p room) c.args.roots c.args.last (path p room) c.loop-k.k c.loop-k.j c.loop-k.invariant.0 some (sym c.if-is-parent.ensures), spent)
+    (tracing_past m (seen p room) (odd_in p room) (entry p room) c.args.roots c.args.last (path p room) c.loop-k.k c.loop-k.j c.loop-k.invariant.0 some (sym c.if-is_parent.ensures), spent)
 
 pub returns : goal.returns
 returns g c =

@@ -14,14 +14,14 @@ returns-in-Refused c = IfOk-weaker c.format.result _ _ (λ s h. h ∙ ap (λ x. 
 pub returns-in-Neither : goal.returns-in-Neither
 returns-in-Neither c = IfOk-weaker c.format-in-Neither.result _ _ (λ s h. h ∙ ap (λ x. line_of (answer_of c.args.room.now x)) (sym c.in-Neither.is)) c.format-in-Neither.ensures.ok
 
-pub returns-in-ok-message : goal.returns-in-ok-message
-returns-in-ok-message c =
-    let first = c.in-ok-first.ensures in
-    let second = c.in-ok-second.ensures in
+pub returns-in_ok-message-in-Unlike : goal.returns-in_ok-message-in-Unlike
+returns-in_ok-message-in-Unlike c =
+    let first = c.in_ok-first-in-Unlike.ensures in
+    let second = c.in_ok-second-in-Unlike.ensures in
     IfOk-weaker c.format-in-Unlike.result _ _
     (λ s h.
     h
-    ∙ unlike_line c.args.room.now c.in-Unlike.at c.in-Unlike.work c.in-Unlike.left c.past.result.now (string_bytes c.in-ok-first.first) c.in-ok-first.rest.now (string_bytes c.in-ok-second.second)
-    c.in-ok-second.rest.now (string_bytes c.in-ok-message.message) c.past.ensures first.text first.rest second.text second.rest c.in-ok-message.ensures
+    ∙ unlike_line c.args.room.now c.in-Unlike.at c.in-Unlike.work c.in-Unlike.left c.past.result.now (string_bytes c.in_ok-first-in-Unlike.first) c.in_ok-first-in-Unlike.rest.now (string_bytes c.in_ok-second-in-Unlike.second)
+    c.in_ok-second-in-Unlike.rest.now (string_bytes c.in_ok-message-in-Unlike.message) c.past.ensures first.text first.rest second.text second.rest c.in_ok-message-in-Unlike.ensures
     ∙ ap (λ x. line_of (answer_of c.args.room.now x)) (sym c.in-Unlike.is))
     c.format-in-Unlike.ensures.ok

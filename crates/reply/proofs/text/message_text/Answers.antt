@@ -6,5 +6,5 @@ use Rattle.reply.proofs.text.message_text.Goals as goal
 
 pub returns : goal.returns
 returns c =
-    message_is c.args.part.now (string_bytes c.push-bits.new.text) c.count.result c.count.ensures c.if-count-eq0.false
-    (from_empty (string_bytes c.new-text.result) (string_bytes c.push-bits.new.text) (digits (front_row c.args.part.now)) c.new-text.ensures.bytes c.in-ok-push-bits.ensures)
+    message_is c.args.part.now (string_bytes c.push_bits.new.text) c.count.result c.count.ensures c.if-count-eq0.false
+    (from_empty (string_bytes c.new-text.result) (string_bytes c.push_bits.new.text) (digits (front_row c.args.part.now)) c.new-text.ensures.bytes c.in_ok-push_bits.ensures)

@@ -7,7 +7,7 @@ loop-k-init c = digits_none (string_bytes c.args.text.now) c.past-words.result.n
 
 pub loop-k-preserved : goal.loop-k-preserved
 loop-k-preserved c =
-    let put = c.in-ok-push.ensures in
+    let put = c.in_ok-push.ensures in
     let one = char_pushed (string_bytes c.loop-k.text) (string_bytes c.push.new.self) _ (48 + c.bit.result) put.ascii (digit_small c.past-words.result.now c.loop-k.k c.bit.result c.bit.ensures) put.bytes in
     digits_more (string_bytes c.loop-k.text) (string_bytes c.push.new.self) c.past-words.result.now _ c.count-k-end.result c.loop-k.k c.bit.result c.loop-k-test.true c.bit.ensures one c.loop-k.invariant
 

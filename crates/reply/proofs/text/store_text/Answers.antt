@@ -7,14 +7,14 @@ use Rattle.reply.proofs.text.store_text.Goals as goal
 pub loop-init : goal.loop-init
 loop-init c =
     let first = c.past-rest.result.now in
-    listed_first c.args.part.now first (string_bytes c.push-bits.new.text) c.past-row-rest.result.now c.count-n.result c.count-n.ensures c.past-rest.ensures c.if-n-eq0.false
-    (from_empty (string_bytes c.new-text.result) (string_bytes c.push-bits.new.text) (digits (front_row first)) c.new-text.ensures.bytes c.in-ok-push-bits.ensures) c.past-row-rest.ensures
+    listed_first c.args.part.now first (string_bytes c.push_bits.new.text) c.past_row-rest.result.now c.count-n.result c.count-n.ensures c.past-rest.ensures c.if-n-eq0.false
+    (from_empty (string_bytes c.new-text.result) (string_bytes c.push_bits.new.text) (digits (front_row first)) c.new-text.ensures.bytes c.in_ok-push_bits.ensures) c.past_row-rest.ensures
 
 pub loop-preserved : goal.loop-preserved
 loop-preserved c =
-    let comma = c.in-ok-push.ensures in
-    listed_more c.args.part.now (string_bytes c.loop.text) (string_bytes c.push.new.self) (string_bytes c.push-bits-in-loop.new.text) c.loop.rest.now c.past-row-rest-in-loop.result.now c.count-n.result c.loop.counter
-    c.loop-test.true (char_pushed (string_bytes c.loop.text) (string_bytes c.push.new.self) _ 44 comma.ascii (omega arith) comma.bytes) c.in-ok-push-bits-2.ensures c.past-row-rest-in-loop.ensures c.loop.invariant
+    let comma = c.in_ok-push.ensures in
+    listed_more c.args.part.now (string_bytes c.loop.text) (string_bytes c.push.new.self) (string_bytes c.push_bits-in-loop.new.text) c.loop.rest.now c.past_row-rest-in-loop.result.now c.count-n.result c.loop.counter
+    c.loop-test.true (char_pushed (string_bytes c.loop.text) (string_bytes c.push.new.self) _ 44 comma.ascii (omega arith) comma.bytes) c.in_ok-push_bits-2.ensures c.past_row-rest-in-loop.ensures c.loop.invariant
 
 pub returns : goal.returns
 returns c =

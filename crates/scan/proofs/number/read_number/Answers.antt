@@ -1,6 +1,6 @@
-use Rattle.std.proofs.Common.{◌≡◌, ℕ, ◌+◌, ◌-◌, ◌*◌, ◌^◌, ◌<◌, ◌≤◌, List, length, get_or, take, drop, sym, refl, ap, ◌∙◌, subst, arith}
+use Rattle.std.proofs.Common.{◌≡◌, ℕ, ◌+◌, ◌-◌, ◌*◌, ◌^◌, ◌<◌, ◌≤◌, List, length, get_or, take, drop, refl, ap, ◌∙◌, subst, arith}
 use Rattle.std.proofs.lemmas.List.{length-take, length-drop}
-use Rattle.format.specs.Read.{big_endian, got}
+use Rattle.format.specs.Read.{big_endian}
 use Rattle.scan.proofs.Chain.{here_failed, then_took, took}
 use Rattle.scan.proofs.Numbers.{more_digits, all_digits, digit_bound, number_small, took_bytes, too_few, part}
 use Rattle.scan.specs.Reads.{ceased, Is}
@@ -13,16 +13,16 @@ returns-then-bytes-at c = record { reads = here_failed _ (ceased (too_few c.args
 part_is : (bytes : List ℕ) (at n : ℕ) → n ≤ length bytes - at → length (take (at + n - at) (drop at bytes)) ≡ n
 part_is bytes at n l = omega (arith, length-take (at + n - at) (drop at bytes), length-drop at bytes)
 
-pub overflow-mul-n : goal.overflow-mul-n
-overflow-mul-n c =
+pub overflow_mul-n : goal.overflow_mul-n
+overflow_mul-n c =
     let i : ℕ = c.loop-digit.digit-index in
     let few : i < c.args.width = omega (arith, part_is c.args.bytes.now c.args.at c.args.width c.if-bytes-at.false) in
     let more : c.loop-digit.n * 256 + 0 < 256 ^ (i + 1) = digit_bound c.loop-digit.n i 0 c.loop-digit.invariant.1 (omega arith) in
     let small : c.loop-digit.n * 256 + 0 < 18446744073709551616 = number_small _ (i + 1) c.args.width (omega arith) c.requires.narrow more in
     omega arith
 
-pub overflow-add-n : goal.overflow-add-n
-overflow-add-n c =
+pub overflow_add-n : goal.overflow_add-n
+overflow_add-n c =
     let i : ℕ = c.loop-digit.digit-index in
     let ds : List ℕ = take (c.args.at + c.args.width - c.args.at) (drop c.args.at c.args.bytes.now) in
     let byte : get_or ds i 0 < 256 = omega arith in

@@ -12,8 +12,8 @@ use Rattle.symbols.proofs.select.hold.Goals.{in-Any, in-Exactly+else-out-next}
 pub bounds-keys-i : goal.bounds-keys-i
 bounds-keys-i c = one_more _ _ _ _ c.args.keys.now c.args.patterns.now c.loop-i.i c.loop-i.invariant c.loop-i-test.true
 
-pub write-pairs-next-requires : goal.write-pairs-next-requires
-write-pairs-next-requires c =
+pub write_pairs-next-requires : goal.write_pairs-next-requires
+write_pairs-next-requires c =
     let ns : List ℕ = sizes_in c.args.machine.now in
     let l = one_more _ _ _ _ c.args.keys.now c.args.patterns.now c.loop-i.i c.loop-i.invariant c.loop-i-test.true in
     record {
@@ -33,9 +33,9 @@ loop-i-preserved c =
       | in-Any w ↦ passes_any _ _ _ _ c.loop-i.invariant (drop_some c.args.keys.now c.loop-i.i l).1 pats w.in-Any.is w.out-is w.next-is
       | in-Exactly+else-out-next w ↦
           let r : c.loop-i.next + 2 * w.len.result ≤ length c.loop-i.out = room_left c.loop-i.next w.len.result (length c.loop-i.out) c.loop-i.invariant.room w.if-out-next.false in
-          wrote _ _ _ _ c.loop-i.invariant (drop_read _ _ _ l w.index-keys-i.is) pats w.in-Exactly.is w.write-pairs-next.ensures.wrote w.deref.ensures.value
-          (omega (arith, w.write-pairs-next.ensures.end))
-          (omega (arith, w.write-pairs-next.ensures.end, w.write-pairs-next.auto.out, w.deref.ensures.len, w.len.ensures))
+          wrote _ _ _ _ c.loop-i.invariant (drop_read _ _ _ l w.index-keys-i.is) pats w.in-Exactly.is w.write_pairs-next.ensures.wrote w.deref.ensures.value
+          (omega (arith, w.write_pairs-next.ensures.end))
+          (omega (arith, w.write_pairs-next.ensures.end, w.write_pairs-next.auto.out, w.deref.ensures.len, w.len.ensures))
           w.out-is w.next-is
     ]
 

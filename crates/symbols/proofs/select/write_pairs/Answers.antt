@@ -1,4 +1,4 @@
-use Rattle.std.proofs.Common.{ℕ, ◌+◌, List, ◌++◌, sym, refl, ◌∙◌, ap₂, arith}
+use Rattle.std.proofs.Common.{ℕ, List, ◌++◌, sym, refl, ◌∙◌, ap₂, arith}
 use Rattle.syntax.specs.View.{expr_of}
 use Rattle.machine.specs.View.{sizes_in}
 use Rattle.machine.proofs.Values.{value_long}
@@ -8,8 +8,8 @@ use Rattle.symbols.proofs.Placing.{sizes_kept}
 use Rattle.symbols.proofs.Writes.{filled_whole, filled_front}
 use Rattle.symbols.proofs.select.write_pairs.Goals as goal
 
-pub fill-from-requires : goal.fill-from-requires
-fill-from-requires c = record { named = c.requires.named; sized = c.requires.sized; there = c.requires.heads; room = omega (arith, c.requires.room) }
+pub fill_from-requires : goal.fill_from-requires
+fill_from-requires c = record { named = c.requires.named; sized = c.requires.sized; there = c.requires.heads; room = omega (arith, c.requires.room) }
 
 pub returns : goal.returns
 returns c =
@@ -19,6 +19,6 @@ returns c =
     let long = value_long (headers f 0 ns) ns (sizes_kept f 0 ns) (expr_of c.args.key.now) c.requires.named c.requires.sized ∙ sym c.requires.wide in
     record {
       end = refl;
-      wrote = c.pair-up.ensures
-          ∙ ap₂ (λ xs v. xs ++ paired v bs) (filled_front c.args.out.now c.fill-from.new.out c.args.at (omega arith) (omega (arith, c.fill-from.auto.out)) (omega arith) c.fill-from.ensures) (filled_whole long c.fill-from.ensures);
+      wrote = c.pair_up.ensures
+          ∙ ap₂ (λ xs v. xs ++ paired v bs) (filled_front c.args.out.now c.fill_from.new.out c.args.at (omega arith) (omega (arith, c.fill_from.auto.out)) (omega arith) c.fill_from.ensures) (filled_whole long c.fill_from.ensures);
     }

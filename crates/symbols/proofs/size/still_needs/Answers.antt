@@ -5,11 +5,11 @@ use Rattle.symbols.proofs.size.still_needs.Goals as goal
 pub width-requires : goal.width-requires
 width-requires c = state_known c.args.machine.now c.args.point c.requires c.in-State.is
 
-pub overflow-sub-result : goal.overflow-sub-result
-overflow-sub-result c = omega (arith, c.width.ensures, state_needs c.args.machine.now c.args.point c.in-State.is, c.requires.ready)
+pub overflow_sub-result : goal.overflow_sub-result
+overflow_sub-result c = omega (arith, c.width.ensures, state_needs c.args.machine.now c.args.point c.in-State.is, c.requires.ready)
 
-pub overflow-sub-result-in-Accept : goal.overflow-sub-result-in-Accept
-overflow-sub-result-in-Accept c = omega (arith, end_needs c.args.machine.now c.args.point c.in-Accept.is, c.requires.ready)
+pub overflow_sub-result-in-Accept : goal.overflow_sub-result-in-Accept
+overflow_sub-result-in-Accept c = omega (arith, end_needs c.args.machine.now c.args.point c.in-Accept.is, c.requires.ready)
 
 pub returns-in-State : goal.returns-in-State
 returns-in-State c = ap (λ n. n - c.args.point.taken) (c.width.ensures ∙ sym (state_needs c.args.machine.now c.args.point c.in-State.is))

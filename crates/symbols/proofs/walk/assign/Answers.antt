@@ -9,8 +9,8 @@ use Rattle.symbols.proofs.Placing.{sizes_kept, take_part}
 use Rattle.symbols.proofs.Writes.{filled_whole}
 use Rattle.symbols.proofs.walk.assign.Goals as goal
 
-pub fill-from-requires : goal.fill-from-requires
-fill-from-requires c =
+pub fill_from-requires : goal.fill_from-requires
+fill_from-requires c =
     record {
       named = c.requires.named;
       sized = c.requires.sized;
@@ -23,7 +23,7 @@ put-requires c =
     record {
       known = c.requires.known;
       there = c.requires.there;
-      long = omega (arith, start_room 0 (sizes_in c.args.machine.now) c.args.h c.requires.known, c.requires.aside, c.fill-from.auto.out);
+      long = omega (arith, start_room 0 (sizes_in c.args.machine.now) c.args.h c.requires.known, c.requires.aside, c.fill_from.auto.out);
     }
 
 pub returns : goal.returns
@@ -31,8 +31,8 @@ returns c =
     let ns : List ℕ = sizes_in c.args.machine.now in
     let f : ℕ → ℕ = in_row c.args.heads.now in
     let n : ℕ = c.size.result in
-    let xs : List ℕ = c.fill-from.new.out in
+    let xs : List ℕ = c.fill_from.new.out in
     let long = value_long (headers f 0 ns) ns (sizes_kept f 0 ns) (expr_of c.args.e.now) c.requires.named c.requires.sized ∙ c.requires.wide ∙ sym c.size.ensures in
-    let short : n ≤ length xs = omega (arith, c.size.ensures, start_room 0 ns c.args.h c.requires.known, c.requires.aside, c.fill-from.auto.out) in
+    let short : n ≤ length xs = omega (arith, c.size.ensures, start_room 0 ns c.args.h c.requires.known, c.requires.aside, c.fill_from.auto.out) in
     c.put.ensures
-    ∙ ap (set (symbols_in c.args.machine.now c.args.heads.now) c.args.h) (ap (λ m. take m xs) (sym c.size.ensures) ∙ take_part xs n short ∙ filled_whole long c.fill-from.ensures)
+    ∙ ap (set (symbols_in c.args.machine.now c.args.heads.now) c.args.h) (ap (λ m. take m xs) (sym c.size.ensures) ∙ take_part xs n short ∙ filled_whole long c.fill_from.ensures)

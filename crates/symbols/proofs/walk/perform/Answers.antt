@@ -27,8 +27,8 @@ size-at-requires c =
     let named = ap (λ os. every (named_op ns) (map op_of os)) c.deref-op-items.ensures.value ∙ c.requires.sound.named_ops in
     extract_known ns c.deref-op-items.result.now named c.loop-op-test.true c.op-item.is c.in-Extract.is
 
-pub overflow-add-at : goal.overflow-add-at
-overflow-add-at c = omega (arith, extract_room (sizes_in c.args.machine.now) c.loop-op.invariant c.loop-op-test.true c.op-item.is c.in-Extract.is, c.size-at.ensures)
+pub overflow_add-at : goal.overflow_add-at
+overflow_add-at c = omega (arith, extract_room (sizes_in c.args.machine.now) c.loop-op.invariant c.loop-op-test.true c.op-item.is c.in-Extract.is, c.size-at.ensures)
 
 pub assign-requires : goal.assign-requires
 assign-requires c =

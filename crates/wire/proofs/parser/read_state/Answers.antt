@@ -1,20 +1,20 @@
 use Rattle.scan.proofs.Chain.{here_failed, then_failed, exit}
 use Rattle.wire.proofs.parser.read_state.Goals as goal
 
-pub returns-in-err-ops : goal.returns-in-err-ops
-returns-in-err-ops c = let x = c.from-residual in exit _ x.result x.ensures.1 (here_failed _ c.in-err-ops.ensures)
+pub returns-in_err-ops : goal.returns-in_err-ops
+returns-in_err-ops c = let x = c.from_residual in exit _ x.result x.ensures.1 (here_failed _ c.in_err-ops.ensures)
 
-pub returns-in-err-keys : goal.returns-in-err-keys
-returns-in-err-keys c =
-    let x = c.from-residual-in-err-keys in exit _ x.result x.ensures.1 (then_failed _ c.in-ok-ops.ensures (here_failed _ c.in-err-keys.ensures))
+pub returns-in_err-keys : goal.returns-in_err-keys
+returns-in_err-keys c =
+    let x = c.from_residual-in_err-keys in exit _ x.result x.ensures.1 (then_failed _ c.in_ok-ops.ensures (here_failed _ c.in_err-keys.ensures))
 
-pub returns-in-err-cases : goal.returns-in-err-cases
-returns-in-err-cases c =
-    let x = c.from-residual-in-err-cases in
-    exit _ x.result x.ensures.1 (then_failed _ c.in-ok-ops.ensures (then_failed _ c.in-ok-keys.ensures (here_failed _ c.in-err-cases.ensures)))
+pub returns-in_err-cases : goal.returns-in_err-cases
+returns-in_err-cases c =
+    let x = c.from_residual-in_err-cases in
+    exit _ x.result x.ensures.1 (then_failed _ c.in_ok-ops.ensures (then_failed _ c.in_ok-keys.ensures (here_failed _ c.in_err-cases.ensures)))
 
-pub returns-in-err-otherwise : goal.returns-in-err-otherwise
-returns-in-err-otherwise c =
-    let x = c.from-residual-in-err-otherwise in
+pub returns-in_err-otherwise : goal.returns-in_err-otherwise
+returns-in_err-otherwise c =
+    let x = c.from_residual-in_err-otherwise in
     exit _ x.result x.ensures.1
-    (then_failed _ c.in-ok-ops.ensures (then_failed _ c.in-ok-keys.ensures (then_failed _ c.in-ok-cases.ensures (here_failed _ c.in-err-otherwise.ensures))))
+    (then_failed _ c.in_ok-ops.ensures (then_failed _ c.in_ok-keys.ensures (then_failed _ c.in_ok-cases.ensures (here_failed _ c.in_err-otherwise.ensures))))

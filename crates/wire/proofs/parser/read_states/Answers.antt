@@ -7,21 +7,21 @@ use Rattle.scan.proofs.Chain.{here_failed, exit, exit_memory}
 use Rattle.wire.proofs.Lists.{listing_more, listing_failed, kept_more, counted_failed, one_fewer}
 use Rattle.wire.proofs.parser.read_states.Goals as goal
 
-pub returns-in-err-count : goal.returns-in-err-count
-returns-in-err-count c = let x = c.from-residual in exit _ x.result x.ensures.1 (here_failed _ c.in-err-count.ensures.reads)
+pub returns-in_err-count : goal.returns-in_err-count
+returns-in_err-count c = let x = c.from_residual in exit _ x.result x.ensures.1 (here_failed _ c.in_err-count.ensures.reads)
 
-pub returns-in-err-item : goal.returns-in-err-item
-returns-in-err-item c =
-    let x = c.from-residual-in-err-item in
+pub returns-in_err-item : goal.returns-in_err-item
+returns-in_err-item c =
+    let x = c.from_residual-in_err-item in
     exit _ x.result x.ensures.1
-    (counted_failed read_state c.args.bytes.now c.args.at c.in-ok-count.ensures.reads (listing_failed c.loop.invariant _ (one_fewer _ _ c.loop-test.true) c.in-err-item.ensures))
+    (counted_failed read_state c.args.bytes.now c.args.at c.in_ok-count.ensures.reads (listing_failed c.loop.invariant _ (one_fewer _ _ c.loop-test.true) c.in_err-item.ensures))
 
-pub returns-in-err-items : goal.returns-in-err-items
-returns-in-err-items c =
-    let x = c.from-residual-in-err-items in exit_memory (read_counted read_state (drop c.args.at c.args.bytes.now)) c.args.bytes.now _ x.result x.ensures.1
+pub returns-in_err-items : goal.returns-in_err-items
+returns-in_err-items c =
+    let x = c.from_residual-in_err-items in exit_memory (read_counted read_state (drop c.args.at c.args.bytes.now)) c.args.bytes.now _ x.result x.ensures.1
 
 pub loop-preserved : goal.loop-preserved
 loop-preserved c =
-    let t = c.in-ok-item.ensures in
+    let t = c.in_ok-item.ensures in
     listing_more c.loop.invariant _ (one_fewer _ _ c.loop-test.true) t _
-    (kept_more state_of shallow_state c.loop.items c.in-ok-item.item _ c.loop.invariant.prefix t.value c.loop.invariant.meant t.meant c.in-ok-items.ensures)
+    (kept_more state_of shallow_state c.loop.items c.in_ok-item.item _ c.loop.invariant.prefix t.value c.loop.invariant.meant t.meant c.in_ok-items.ensures)

@@ -1,4 +1,4 @@
-use Rattle.std.proofs.Common.{◌≡◌, ℕ, ◌+◌, ◌-◌, ◌≤◌, List, length, take, drop, sym, subst, arith, rules}
+use Rattle.std.proofs.Common.{◌≡◌, ℕ, ◌+◌, ◌-◌, List, length, take, drop, sym, subst, arith}
 use Rattle.std.proofs.lemmas.List.{length-take, length-take-le, length-drop}
 use Rattle.model.specs.Parser.{value}
 use Rattle.syntax.specs.View.{expr_of}
@@ -53,23 +53,20 @@ returns-in-Slice t c =
     let long = slice_long ns ws c.in-Slice.is c.deref-in-Slice.ensures c.requires.named c.requires.sized in
     filled_piece v c.args.skip c.args.most long c.min-from-in-Slice.ensures c.min-n-in-Slice.ensures
     (slice_wrote ns ws c.in-Slice.is c.deref-in-Slice.ensures c.requires.named c.requires.sized c.min-from-in-Slice.result c.min-n-in-Slice.result
-    (inside v c.args.skip c.args.most long c.min-from-in-Slice.ensures c.min-n-in-Slice.ensures) c.fill-from.ensures)
+    (inside v c.args.skip c.args.most long c.min-from-in-Slice.ensures c.min-n-in-Slice.ensures) c.fill_from.ensures)
 
-pub overflow-sub-most : goal.overflow-sub-most
-overflow-sub-most t c = filled_within c.fill-from-skip.ensures
+pub overflow_sub-most : goal.overflow_sub-most
+overflow_sub-most t c = filled_within c.fill_from-skip.ensures
 
-pub overflow-add-at : goal.overflow-add-at
-overflow-add-at t c = omega (arith, filled_within c.fill-from-skip.ensures)
+pub overflow_add-at : goal.overflow_add-at
+overflow_add-at t c = omega (arith, filled_within c.fill_from-skip.ensures)
 
-pub fill-from-skip-requires-in-Join : goal.fill-from-skip-requires-in-Join
-fill-from-skip-requires-in-Join t c = let l : c.fill-from-skip.result.1 ≤ c.args.most = filled_within c.fill-from-skip.ensures in search rules
-
-pub overflow-add-result : goal.overflow-add-result
-overflow-add-result t c = omega (arith, filled_within c.fill-from-skip.ensures, filled_within c.fill-from-skip-in-Join.ensures)
+pub overflow_add-result : goal.overflow_add-result
+overflow_add-result t c = omega (arith, filled_within c.fill_from-skip.ensures, filled_within c.fill_from-skip-in-Join.ensures)
 
 pub returns-in-Join : goal.returns-in-Join
 returns-in-Join t c =
     let s = contents c.args.self.now c.args.before.now in
-    subst (λ v. Filled c.args.store.now.words c.fill-from-skip-in-Join.new.store.words v c.args.skip c.args.most c.args.at c.fill-from-skip-in-Join.result.0 (c.fill-from-skip.result.1 + c.fill-from-skip-in-Join.result.1))
+    subst (λ v. Filled c.args.store.now.words c.fill_from-skip-in-Join.new.store.words v c.args.skip c.args.most c.args.at c.fill_from-skip-in-Join.result.0 (c.fill_from-skip.result.1 + c.fill_from-skip-in-Join.result.1))
     (join_row s c.in-Join.is c.deref-in-Join.ensures c.deref-in-Join-2.ensures)
-    (filled_join (value s (expr_of c.deref-in-Join.result.now)) (value s (expr_of c.deref-in-Join-2.result.now)) c.fill-from-skip.ensures c.fill-from-skip-in-Join.ensures)
+    (filled_join (value s (expr_of c.deref-in-Join.result.now)) (value s (expr_of c.deref-in-Join-2.result.now)) c.fill_from-skip.ensures c.fill_from-skip-in-Join.ensures)

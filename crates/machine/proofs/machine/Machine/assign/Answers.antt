@@ -1,5 +1,4 @@
 use Rattle.std.proofs.Common.{ℕ, List, ◌∙◌}
-use Rattle.model.specs.Parser.{value}
 use Rattle.syntax.specs.View.{expr_of}
 use Rattle.machine.specs.Row.{headers}
 use Rattle.machine.specs.View.{sizes_in}
@@ -13,4 +12,4 @@ returns c =
     let ns : List ℕ = sizes_in c.args.self.now in
     let ws : List ℕ = c.args.store.now.words in
     let long = value_long (headers ws 0 ns) ns (sizes_kept ws 0 ns) (expr_of c.args.e.now) c.requires.named c.requires.sized ∙ c.requires.wide in
-    filled_whole ns c.args.h c.requires.known long c.start.ensures.value c.size.ensures c.fill-from.ensures
+    filled_whole ns c.args.h c.requires.known long c.start.ensures.value c.size.ensures c.fill_from.ensures

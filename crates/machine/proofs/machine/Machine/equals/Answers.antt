@@ -10,4 +10,4 @@ pub returns : goal.returns
 returns c =
     let ns = sizes_in c.args.self.now in
     let long = value_long (contents c.args.self.now c.args.store.now) ns (sizes_kept c.args.store.now.words 0 ns) (expr_of c.args.e.now) c.requires.named c.requires.sized in
-    c.is-some.ensures ∙ held_whole _ _ c.compare-from.result (long ∙ sym c.requires.wide) c.compare-from.ensures
+    c.is_some.ensures ∙ held_whole _ _ c.compare_from.result (long ∙ sym c.requires.wide) c.compare_from.ensures

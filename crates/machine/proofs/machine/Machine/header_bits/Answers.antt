@@ -9,8 +9,8 @@ use Rattle.machine.proofs.machine.Machine.header_bits.Goals as goal
 room : (m : Machine) → sum (sizes_in m) ≤ 4096
 room m = (right_from (parser_in m) m.checked.right).room
 
-pub overflow-add-total : goal.overflow-add-total
-overflow-add-total c = omega (arith, summed_left c.loop-size.invariant c.loop-size-test.true, ap sum c.deref-size-items.ensures.value, room c.args.self.now)
+pub overflow_add-total : goal.overflow_add-total
+overflow_add-total c = omega (arith, summed_left c.loop-size.invariant c.loop-size-test.true, ap sum c.deref-size-items.ensures.value, room c.args.self.now)
 
 pub loop-size-preserved : goal.loop-size-preserved
 loop-size-preserved c = summed_more c.loop-size.invariant c.loop-size-test.true

@@ -1,4 +1,4 @@
-use Rattle.std.proofs.Common.{◌≡◌, ℕ, ◌≤◌, List, map, length, get_or, take, set, vec_items, sym, ap, ◌∙◌, subst, arith}
+use Rattle.std.proofs.Common.{◌≡◌, ℕ, List, map, length, get_or, take, set, vec_items, ap, ◌∙◌, arith}
 use Rattle.std.proofs.lemmas.List.{length-map, take_all}
 use Rattle.model.specs.Refusal.{are_bits}
 use Rattle.syntax.specs.View.{parser_of}
@@ -13,8 +13,8 @@ loop-h-init c =
     let ns = sizes_in c.args.self.now in
     load_none ns (map vec_items c.args.headers.now) (contents c.args.self.now c.empty-store.result) c.requires (sizes_kept c.empty-store.result.words 0 ns)
 
-pub overflow-cast-h : goal.overflow-cast-h
-overflow-cast-h c =
+pub overflow_cast-h : goal.overflow_cast-h
+overflow_cast-h c =
     omega (
       arith,
       store_length (sizes_in c.args.self.now) (map vec_items c.args.headers.now) c.requires,

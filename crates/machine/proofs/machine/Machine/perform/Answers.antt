@@ -1,4 +1,4 @@
-use Rattle.std.proofs.Common.{◌≡◌, ℕ, ◌+◌, ◌≤◌, true, ltb, List, map, length, get_or, take, set, sym, refl, ap, ◌∙◌, arith}
+use Rattle.std.proofs.Common.{ℕ, ltb, List, map, length, get_or, take, set, ap, ◌∙◌, arith}
 use Rattle.std.proofs.lemmas.List.{take_rest, length-drop}
 use Rattle.model.specs.Refusal.{are_bits, every, named_op, sized_op}
 use Rattle.syntax.specs.View.{op_of}
@@ -27,8 +27,8 @@ size-at-requires c =
     let named = ap (λ os. every (named_op ns) (map op_of os)) c.deref-op-items.ensures.value ∙ c.requires.sound.named_ops in
     extract_known ns c.deref-op-items.result.now named c.loop-op-test.true c.op-item.is c.in-Extract.is
 
-pub overflow-add-at : goal.overflow-add-at
-overflow-add-at c = omega (arith, extract_room (sizes_in c.args.self.now) c.loop-op.invariant c.loop-op-test.true c.op-item.is c.in-Extract.is, c.size-at.ensures)
+pub overflow_add-at : goal.overflow_add-at
+overflow_add-at c = omega (arith, extract_room (sizes_in c.args.self.now) c.loop-op.invariant c.loop-op-test.true c.op-item.is c.in-Extract.is, c.size-at.ensures)
 
 pub assign-requires : goal.assign-requires
 assign-requires c =

@@ -1,6 +1,6 @@
 use Rattle.std.proofs.Common.{map, drop, vec_items}
 use Rattle.model.specs.Parser.{matches}
-use Rattle.syntax.specs.View.{expr_of, pattern_of, state_of}
+use Rattle.syntax.specs.View.{pattern_of, state_of}
 use Rattle.machine.specs.View.{contents, sizes_in}
 use Rattle.machine.proofs.Cases.{Ahead}
 use Rattle.machine.proofs.Matching.{Left}

@@ -16,8 +16,8 @@ module _ (m : Machine) {ws : List ℕ} {i most : ℕ} (loop : Widest ws i most) 
   few : most ≤ 4096
   few = omega (arith, all, (right_from (parser_in m) m.checked.right).narrow)
 
-pub overflow-cast-result : goal.overflow-cast-result
-overflow-cast-result c = omega (arith, few c.args.self.now c.loop-width.invariant c.loop-width-test.false c.deref-width-items.ensures.value)
+pub overflow_cast-result : goal.overflow_cast-result
+overflow_cast-result c = omega (arith, few c.args.self.now c.loop-width.invariant c.loop-width-test.false c.deref-width-items.ensures.value)
 
 pub returns : goal.returns
 returns c =

@@ -11,11 +11,11 @@ next-first-requires c = record { small = first_small c.args.self.now; good = fir
 pub next-second-requires : goal.next-second-requires
 next-second-requires c = record { small = second_small c.args.self.now; good = second_half c.args.self.now c.args.p c.requires.good; bit = omega (arith, c.requires.bit) }
 
-pub overflow-mul-result : goal.overflow-mul-result
-overflow-mul-result c = omega (arith, joined_small c.args.self.now c.next-first.result c.next-second.result c.next-first.ensures.below c.next-second.ensures.below)
+pub overflow_mul-result : goal.overflow_mul-result
+overflow_mul-result c = omega (arith, joined_small c.args.self.now c.next-first.result c.next-second.result c.next-first.ensures.below c.next-second.ensures.below)
 
-pub overflow-add-result : goal.overflow-add-result
-overflow-add-result c = omega (arith, joined_small c.args.self.now c.next-first.result c.next-second.result c.next-first.ensures.below c.next-second.ensures.below)
+pub overflow_add-result : goal.overflow_add-result
+overflow_add-result c = omega (arith, joined_small c.args.self.now c.next-first.result c.next-second.result c.next-first.ensures.below c.next-second.ensures.below)
 
 pub returns : goal.returns
 returns c =

@@ -6,8 +6,8 @@ use Rattle.product.proofs.Exponents.{headers-narrow}
 use Rattle.product.proofs.Joining.{first_of, second_of, first_small, second_small, first_start, second_start, joined_below, joined_good, joined_small}
 use Rattle.product.proofs.pair.ProductSystem.start.Goals as goal
 
-pub overflow-shr-i : goal.overflow-shr-i
-overflow-shr-i c = headers-narrow c.args.self.now.second (second_small c.args.self.now)
+pub overflow_shr-i : goal.overflow_shr-i
+overflow_shr-i c = headers-narrow c.args.self.now.second (second_small c.args.self.now)
 
 pub begin-first-requires : goal.begin-first-requires
 begin-first-requires c = record { small = first_small c.args.self.now; within = first_start c.args.self.now c.args.i c.requires }
@@ -18,11 +18,11 @@ low-requires c = headers-narrow c.args.self.now.second (second_small c.args.self
 pub begin-second-requires : goal.begin-second-requires
 begin-second-requires c = record { small = second_small c.args.self.now; within = second_start c.args.self.now c.args.i c.low.ensures }
 
-pub overflow-mul-result : goal.overflow-mul-result
-overflow-mul-result c = omega (arith, joined_small c.args.self.now c.begin-first.result c.begin-second.result c.begin-first.ensures.below c.begin-second.ensures.below)
+pub overflow_mul-result : goal.overflow_mul-result
+overflow_mul-result c = omega (arith, joined_small c.args.self.now c.begin-first.result c.begin-second.result c.begin-first.ensures.below c.begin-second.ensures.below)
 
-pub overflow-add-result : goal.overflow-add-result
-overflow-add-result c = omega (arith, joined_small c.args.self.now c.begin-first.result c.begin-second.result c.begin-first.ensures.below c.begin-second.ensures.below)
+pub overflow_add-result : goal.overflow_add-result
+overflow_add-result c = omega (arith, joined_small c.args.self.now c.begin-first.result c.begin-second.result c.begin-first.ensures.below c.begin-second.ensures.below)
 
 pub returns : goal.returns
 returns c =

@@ -3,8 +3,8 @@ use Rattle.product.specs.declared.product.Product.{Product}
 use Rattle.product.proofs.Joining.{starts_narrow, starts_counted, stores_few}
 use Rattle.product.proofs.pair.ProductSystem.starts.Goals as goal
 
-pub overflow-shl-result : goal.overflow-shl-result
-overflow-shl-result c = starts_narrow c.args.self.now
+pub overflow_shl-result : goal.overflow_shl-result
+overflow_shl-result c = starts_narrow c.args.self.now
 
 pub returns : goal.returns
 returns c =

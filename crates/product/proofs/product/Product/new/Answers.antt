@@ -12,18 +12,18 @@ count s = config_count (parser_in s.machine)
 some : (s : Side) {d : ℕ} → d ≡ count s → 0 < d
 some s is = omega (arith, is, count_some (parser_in s.machine))
 
-pub returns-in-default : goal.returns-in-default
-returns-in-default c = (
+pub returns-in_default : goal.returns-in_default
+returns-in_default c = (
   refl,
   refl,
-  omega (arith, c.in-default.ensures, first_factor (count c.args.first) (count c.args.second) (count_some (parser_in c.args.second.machine))),
+  omega (arith, c.in_default.ensures, first_factor (count c.args.first) (count c.args.second) (count_some (parser_in c.args.second.machine))),
 )
 
-pub returns-in-default-count : goal.returns-in-default-count
-returns-in-default-count c = (
+pub returns-in_default-count : goal.returns-in_default-count
+returns-in_default-count c = (
   refl,
   refl,
-  omega (arith, c.in-default-count.ensures, second_factor (count c.args.first) (count c.args.second) (count_some (parser_in c.args.first.machine))),
+  omega (arith, c.in_default-count.ensures, second_factor (count c.args.first) (count c.args.second) (count_some (parser_in c.args.first.machine))),
 )
 
 -- the counts that the code has, against the limit
@@ -31,11 +31,15 @@ module _ (a b : Side) {f d : ℕ} (f_is : f ≡ count a) (d_is : d ≡ count b) 
   above : 2 ^ 60 / d < f → 2 ^ 60 < count a * count b
   above l = subst (λ n. 2 ^ 60 < n) (ap₂ (λ x y. x * y) f_is d_is) (product_above f d (2 ^ 60) (some b d_is) l)
 
-pub returns-then-first-count-second-count : goal.returns-then-first-count-second-count
-returns-then-first-count-second-count c =
-    (refl, refl, above c.args.first c.args.second c.in-Some.ensures.0 c.in-Some-count.ensures.0 c.if-first-count-second-count.true)
+pub returns-then-first_count-second_count : goal.returns-then-first_count-second_count
+returns-then-first_count-second_count c =
+    (refl, refl, above c.args.first c.args.second c.in-Some.ensures.0 c.in-Some-count.ensures.0 c.if-first_count-second_count.true)
 
-pub invariant-of-result : goal.invariant-of-result
-invariant-of-result c =
+pub invariant_of-result : goal.invariant_of-result
+invariant_of-result c =
     let second = c.in-Some-count.ensures.0 in
-    (c.in-Some.ensures.0, (second, (product_within c.in-Some.first_count c.in-Some-count.second-count (2 ^ 60) (some c.args.second second) c.if-first-count-second-count.false, tt)))
+    record {
+      firsts = c.in-Some.ensures.0;
+      seconds = second;
+      small = product_within c.in-Some.first_count c.in-Some-count.second_count (2 ^ 60) (some c.args.second second) c.if-first_count-second_count.false;
+    }

@@ -5,11 +5,11 @@ use Rattle.product.proofs.Exponents.{headers-narrow, buffer_narrow, states_count
 use Rattle.product.proofs.Packing.{accept_number}
 use Rattle.product.proofs.side.Side.accepts.Goals as goal
 
-pub overflow-shr-target : goal.overflow-shr-target
-overflow-shr-target c = buffer_narrow c.args.self.now c.requires
+pub overflow_shr-target : goal.overflow_shr-target
+overflow_shr-target c = buffer_narrow c.args.self.now c.requires
 
-pub overflow-shr-target-2 : goal.overflow-shr-target-2
-overflow-shr-target-2 c = headers-narrow c.args.self.now c.requires
+pub overflow_shr-target-2 : goal.overflow_shr-target-2
+overflow_shr-target-2 c = headers-narrow c.args.self.now c.requires
 
 pub returns : goal.returns
 returns c =

@@ -10,11 +10,11 @@ use Rattle.product.proofs.Exponents.{headers-narrow, buffer_narrow}
 use Rattle.product.proofs.Packing.{decoded, decoded_stands}
 use Rattle.product.proofs.side.Side.decode.Goals as goal
 
-pub overflow-shr-k : goal.overflow-shr-k
-overflow-shr-k c = buffer_narrow c.args.self.now c.requires.small
+pub overflow_shr-k : goal.overflow_shr-k
+overflow_shr-k c = buffer_narrow c.args.self.now c.requires.small
 
-pub overflow-shr-k-2 : goal.overflow-shr-k-2
-overflow-shr-k-2 c = headers-narrow c.args.self.now c.requires.small
+pub overflow_shr-k-2 : goal.overflow_shr-k-2
+overflow_shr-k-2 c = headers-narrow c.args.self.now c.requires.small
 
 pub low-requires : goal.low-requires
 low-requires c = buffer_narrow c.args.self.now c.requires.small

@@ -4,11 +4,11 @@ use Rattle.product.proofs.Exponents.{headers-narrow, buffer_narrow}
 use Rattle.product.proofs.Packing.{encoded}
 use Rattle.product.proofs.side.Side.encode.Goals as goal
 
-pub overflow-shl-high : goal.overflow-shl-high
-overflow-shl-high c = headers-narrow c.args.self.now c.requires.small
+pub overflow_shl-high : goal.overflow_shl-high
+overflow_shl-high c = headers-narrow c.args.self.now c.requires.small
 
-pub overflow-shl-result : goal.overflow-shl-result
-overflow-shl-result c = buffer_narrow c.args.self.now c.requires.small
+pub overflow_shl-result : goal.overflow_shl-result
+overflow_shl-result c = buffer_narrow c.args.self.now c.requires.small
 
 pub returns : goal.returns
 returns c =

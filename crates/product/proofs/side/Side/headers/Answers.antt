@@ -2,8 +2,8 @@ use Rattle.std.proofs.Common.{◌/◌, ◌%◌, ◌^◌, ◌∙◌, ap₂}
 use Rattle.product.proofs.Exponents.{headers-narrow, buffer_narrow}
 use Rattle.product.proofs.side.Side.headers.Goals as goal
 
-pub overflow-shr-k : goal.overflow-shr-k
-overflow-shr-k c = buffer_narrow c.args.self.now c.requires
+pub overflow_shr-k : goal.overflow_shr-k
+overflow_shr-k c = buffer_narrow c.args.self.now c.requires
 
 pub low-requires : goal.low-requires
 low-requires c = headers-narrow c.args.self.now c.requires

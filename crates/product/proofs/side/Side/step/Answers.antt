@@ -33,7 +33,7 @@ returns-then-held-n c =
     let r : Config = record { target = c.args.c.target; headers = c.args.c.headers; buffer = c.push-buffer.result } in
     let more = needs_state p (ap target_of c.in-State.is) in
     let stepped : Stepped p c.args.c c.args.bit r =
-    waits p s.machine.checked.right s.start s.begins c.args.c c.requires.stands c.args.bit c.requires.bit c.ilog2-held.result c.ilog2-held.ensures.power_le c.ilog2-held.ensures.next-power-gt
+    waits p s.machine.checked.right s.start s.begins c.args.c c.requires.stands c.args.bit c.requires.bit c.ilog2-held.result c.ilog2-held.ensures.power_le c.ilog2-held.ensures.next_power_gt
     r refl refl c.push-buffer.ensures (omega (arith, more, c.width-n.ensures, c.if-held-n.true)) in
     record { same = stepped.same; stands = stepped.stands }
 
@@ -43,7 +43,7 @@ returns-else-held-n c =
     let p : Parser = parser_in s.machine in
     let r : Config = c.walk.result in
     let stepped : Stepped p c.args.c c.args.bit r =
-    leaves p s.machine.checked.right s.start s.begins c.args.c c.requires.stands c.args.bit c.requires.bit c.ilog2-held.result c.ilog2-held.ensures.power_le c.ilog2-held.ensures.next-power-gt
+    leaves p s.machine.checked.right s.start s.begins c.args.c c.requires.stands c.args.bit c.requires.bit c.ilog2-held.result c.ilog2-held.ensures.power_le c.ilog2-held.ensures.next_power_gt
     c.in-State.q c.width-n.result (ap target_of c.in-State.is) c.width-n.ensures c.if-held-n.false
     r (c.walk.ensures.done ∙ ap (λ x. run_ops p.sizes (state_in s.machine c.in-State.q).ops (number_bits c.width-n.result x) (store_of p.sizes c.args.c.headers)) c.push-buffer.ensures)
     c.walk.ensures.leads c.walk.ensures.below c.walk.ensures.empty in

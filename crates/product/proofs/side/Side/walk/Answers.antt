@@ -41,8 +41,8 @@ part_is part n bits is = let whole : n - 0 ≡ n = omega arith in ap (λ m. take
 pub spread-part-requires : goal.spread-part-requires
 spread-part-requires c = few c.args.self.now c.requires.small c.args.q c.args.n c.requires.known c.requires.wide
 
-pub slice-bounds-walk-end : goal.slice-bounds-walk-end
-slice-bounds-walk-end c = omega (arith, few c.args.self.now c.requires.small c.args.q c.args.n c.requires.known c.requires.wide, c.spread-part.ensures.long)
+pub slice_bounds-walk-end : goal.slice_bounds-walk-end
+slice_bounds-walk-end c = omega (arith, few c.args.self.now c.requires.small c.args.q c.args.n c.requires.known c.requires.wide, c.spread-part.ensures.long)
 
 pub walk-target-requires : goal.walk-target-requires
 walk-target-requires c =
@@ -63,7 +63,7 @@ returns c =
     let z : M.State = state_in s.machine c.args.q in
     let part = part_is c.spread-part.result c.args.n c.args.bits c.spread-part.ensures.bits in
     let after = kept s c.requires.small c.walk-target.new.store.words c.word.ensures c.low.ensures in
-    let before = contents_are s c.requires.small c.from-word-store.result.words (sym c.from-word-store.ensures.first) in
+    let before = contents_are s c.requires.small c.from_word-store.result.words (sym c.from_word-store.ensures.first) in
     record {
       done = after ∙ c.walk-target.ensures.done ∙ ap₂ (run_ops ns z.ops) part before;
       leads = c.walk-target.ensures.leads ∙ sym (ap (λ t. selected t z) after);

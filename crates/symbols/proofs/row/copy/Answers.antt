@@ -3,7 +3,7 @@ use Rattle.symbols.specs.Part.{in_row, part}
 use Rattle.symbols.specs.Writing.{Written}
 use Rattle.symbols.proofs.Placing.{part_at}
 use Rattle.symbols.proofs.Writes.{item_written}
-use Rattle.symbols.proofs.rows.copy.Goals as goal
+use Rattle.symbols.proofs.row.copy.Goals as goal
 
 pub loop-i-preserved : goal.loop-i-preserved
 loop-i-preserved c =

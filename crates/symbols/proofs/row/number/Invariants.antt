@@ -1,7 +1,7 @@
 use Rattle.symbols.specs.Part.{in_row, part}
 use Rattle.symbols.specs.Symbol.{symbol}
 use Rattle.symbols.specs.Writing.{Written}
-use Rattle.symbols.proofs.rows.number.Given as goal
+use Rattle.symbols.proofs.row.number.Given as goal
 
 abbrev pub invariant-loop-i : goal.invariant-loop-i
 invariant-loop-i l = Written (in_row l.initial.row) (in_row l.row) (part symbol l.first l.n) l.at l.i

@@ -4,7 +4,7 @@ use Rattle.symbols.specs.Symbol.{symbol}
 use Rattle.symbols.specs.Writing.{Written}
 use Rattle.symbols.proofs.Placing.{part_at}
 use Rattle.symbols.proofs.Writes.{item_written}
-use Rattle.symbols.proofs.rows.number.Goals as goal
+use Rattle.symbols.proofs.row.number.Goals as goal
 
 pub loop-i-preserved : goal.loop-i-preserved
 loop-i-preserved c =

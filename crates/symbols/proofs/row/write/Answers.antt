@@ -2,7 +2,7 @@ use Rattle.std.proofs.Common.{◌≡◌, length, refl, subst, arith}
 use Rattle.symbols.specs.Part.{in_row}
 use Rattle.symbols.specs.Writing.{Written}
 use Rattle.symbols.proofs.Writes.{item_written}
-use Rattle.symbols.proofs.rows.write.Goals as goal
+use Rattle.symbols.proofs.row.write.Goals as goal
 
 pub loop-i-preserved : goal.loop-i-preserved
 loop-i-preserved c = item_written c.loop-i.row c.loop-i.invariant (omega arith) refl
