@@ -1,4 +1,6 @@
 // Bytes and room in, an answer out: every request is answered, or refused by the first number that applies.
+#![tactic(auto)]
+
 ghost use Rattle.std.specs.Prelude.{◌≡◌, ℕ, length, IfOk};
 ghost use Rattle.model.specs.Request.{lent, parsing};
 ghost use Rattle.model.specs.Promise.{Promised};

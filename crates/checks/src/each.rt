@@ -12,7 +12,7 @@ pub(crate) trait Test<X> {
 
 // Does it hold of each?
 pub(crate) fn each<X, T: Test<X>>(test: &T, elements: &[X]) -> bool
-    ensures { result ≡ every (holds test.now) elements.now }
+    ensures { result ≡ every (T.holds test.now) elements.now }
 {
     for element in elements {
         if !test.test(element) {

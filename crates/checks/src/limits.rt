@@ -2,7 +2,7 @@
 ghost use Rattle.std.specs.Prelude.{◌≡◌, map, nat_lt};
 ghost use Rattle.model.specs.Refusal.{parts_case, parts_expr, parts_op, parts_pattern, parts_state};
 ghost use Rattle.model.specs.Refusal.{shallow_expr, shallow_op, shallow_state, sum, total, within_limits};
-ghost use Rattle.model.specs.Refusal.{shallow as within-depth};
+ghost use Rattle.model.specs.Refusal.{shallow as within_depth};
 ghost use Rattle.syntax.specs.View.{case_of, expr_of, op_of, parser_of, pattern_of, state_of};
 ghost use Rattle.checks.specs.Measured.{Measured, Spent, headers_within, states_within};
 
@@ -169,7 +169,7 @@ impl Test<Op> for Shallow {
 }
 
 impl Test<Expr> for Shallow {
-    ghost holds = { λ _ e. within-depth (expr_of e) };
+    ghost holds = { λ _ e. within_depth (expr_of e) };
 
     fn test(&self, e: &Expr) -> bool {
         is_shallow(e, DEPTH)

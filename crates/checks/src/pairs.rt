@@ -12,7 +12,7 @@ pub(crate) trait Pair<X, Y> {
 
 // Are there as many of both, and does the test hold of each two?
 pub(crate) fn pairs<X, Y, T: Pair<X, Y>>(test: &T, lefts: &[X], rights: &[Y]) -> bool
-    ensures { result ≡ pairwise (agrees test.now) lefts.now rights.now }
+    ensures { result ≡ pairwise (T.agrees test.now) lefts.now rights.now }
 {
     if lefts.len() != rights.len() {
         return false;

@@ -13,7 +13,7 @@ pub(crate) trait Price<X> {
 
 // What is left after all.
 pub(crate) fn pay_all<X, P: Price<X>>(price: &P, elements: &[X], mut left: usize) -> Option<usize>
-    ensures { Spent (total (cost price.now) elements.now) left result }
+    ensures { Spent (total (P.cost price.now) elements.now) left result }
 {
     for element in elements {
         left = price.pay(element, left)?;

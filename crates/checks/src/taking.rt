@@ -2,7 +2,7 @@
 ghost use Rattle.std.specs.Prelude.{◌≡◌, nat_le, nat_lt};
 ghost use Rattle.model.specs.Parser.{ops_width};
 ghost use Rattle.model.specs.Refusal.{narrow, widest};
-ghost use Rattle.model.specs.Refusal.{taking as all-taking};
+ghost use Rattle.model.specs.Refusal.{taking as all_taking};
 ghost use Rattle.syntax.specs.View.{op_of, parser_of, state_of};
 ghost use Rattle.checks.specs.Measured.{Measured, op_width};
 
@@ -16,7 +16,7 @@ const TAKEN: usize = 4096;
 
 // Does each state take a bit at least?
 pub(crate) fn takes(parser: &Parser) -> bool
-    ensures { result ≡ all-taking (parser_of parser.now) }
+    ensures { result ≡ all_taking (parser_of parser.now) }
 {
     each(
         &Taking {

@@ -1,7 +1,7 @@
 // Has each part of a parser its width: slices lie within, what is assigned fills its header, and a pattern is as wide as its key.
 ghost use Rattle.std.specs.Prelude.{◌≡◌, ◌<◌, slice_index};
 ghost use Rattle.model.specs.Refusal.{expr_width, sized_expr, sized_op, sized_state};
-ghost use Rattle.model.specs.Refusal.{sized as all-sized};
+ghost use Rattle.model.specs.Refusal.{sized as all_sized};
 ghost use Rattle.syntax.specs.View.{expr_of, op_of, parser_of, pattern_of, state_of};
 ghost use Rattle.checks.specs.Measured.{Measured};
 ghost use Rattle.checks.specs.Paired.{pairwise, sized_pattern};
@@ -16,7 +16,7 @@ const WIDEST: usize = 4096;
 
 // Has each part of each state its width?
 pub(crate) fn sized(parser: &Parser) -> bool
-    ensures { result ≡ all-sized (parser_of parser.now) }
+    ensures { result ≡ all_sized (parser_of parser.now) }
 {
     let widths = Widths {
         sizes: parser.sizes.as_slice(),

@@ -7,6 +7,7 @@
 //     let added = add_lemmas(numbers, starts, count, rep, value, trail, step.depth, at, most, work);
 //     let shown = follows_by(numbers, starts, added.count, rep, value, trail, added.depth, goal, added.next, most, added.left);
 //     undo(value, trail, 0, added.depth);
+#![tactic(auto)]
 
 pub mod bits;
 pub mod hints;

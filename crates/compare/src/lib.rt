@@ -1,6 +1,8 @@
 // Two parsers compared within a budget: alike, unlike with what shows it, or the budget is used up.
+#![tactic(auto)]
+
 ghost use Rattle.std.specs.Prelude.{◌≡◌, ℕ, ◌^◌, ◌≤◌, min, length};
-ghost use Rattle.model.specs.Request.{compare as to-compare};
+ghost use Rattle.model.specs.Request.{compare as to_compare};
 ghost use Rattle.model.specs.Promise.{RightAnswer, Answered};
 ghost use Rattle.reply.specs.View.{answer_of};
 ghost use Rattle.compare.specs.Budget.{compared, room_for};
@@ -21,8 +23,8 @@ const LEAST_ROOM: u64 = 65_536;
 // numbers of the room. An answer says what is left of both; where two are unlike, what is in the
 // headers and the message stand in the room.
 pub fn compare(first: Side, second: Side, work: u64, most_room: u64, room: &mut [u64]) -> Answer
-    ensures right { RightAnswer (to-compare (compared first second work (min most_room (length room.old)))) (answer_of room.new result) }
-    ensures answers { Answered (to-compare (compared first second work (min most_room (length room.old)))) (answer_of room.new result) }
+    ensures right { RightAnswer (to_compare (compared first second work (min most_room (length room.old)))) (answer_of room.new result) }
+    ensures answers { Answered (to_compare (compared first second work (min most_room (length room.old)))) (answer_of room.new result) }
 {
     let given = most_room.min(room.len() as u64);
     let Ok(product) = Product::new(first, second) else {

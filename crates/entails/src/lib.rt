@@ -1,6 +1,8 @@
 //! Whether a clause follows from others for all bits, by trying: nothing that is found is believed until it was checked.
 // Read survey (are premises and goal as they should be), propagate (bits that are forced, and tried), learn (what a conflict rests on), hunt (until the
 // goal is shown or bits are found), evaluate and confirm (what is believed of that), and then `follows` here.
+#![tactic(auto)]
+
 ghost use Rattle.std.specs.Prelude.{ℕ, ◌<◌, ◌≤◌, List, length, MatchOption};
 ghost use Rattle.entails.specs.Answers.{Lacks, Right};
 ghost use Rattle.entails.specs.Layouts.{Laid};

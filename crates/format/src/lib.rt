@@ -1,4 +1,6 @@
 // The bytes of requests and answers: what is written is read back, and where bytes cease to be a request. The definitions stand in specs/.
+#![tactic(auto)]
+
 ghost use Rattle.format.specs.Ceases.{Ceases, Begins};
 ghost use Rattle.format.specs.Written.{RequestsReadBack, AnswersReadBack};
 

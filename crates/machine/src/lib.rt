@@ -1,4 +1,6 @@
 // A checked parser that runs. Read store, machine, then eval, walk and run; measure stands alone.
+#![tactic(auto)]
+
 mod eval;
 mod machine;
 mod measure;

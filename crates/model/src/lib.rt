@@ -1,4 +1,6 @@
 // Theorems about parsers, each on the contract of a function that does nothing. The definitions stand in specs/.
+#![tactic(auto)]
+
 ghost use Rattle.model.specs.Promise.{PromisedIsRight};
 ghost use Rattle.model.specs.Theory.{RightOrRefused};
 

@@ -1,4 +1,6 @@
 // Two parsers as one system that can be swept. Read config and side, then size, bits and step, then product and pair.
+#![tactic(auto)]
+
 ghost use Rattle.product.specs.Pair.{SafeIsEquivalent, LeadingDistinguishes};
 
 mod bits;

@@ -1,6 +1,6 @@
 // One parser's configurations as numbers, and what one bit does to them.
 ghost use Rattle.std.specs.Prelude.{◌≡◌, ℕ, ◌^◌, ◌<◌, ◌≤◌, true};
-ghost use Rattle.model.specs.Config.{step as step_of_lem};
+ghost use Rattle.model.specs.Config.{step as step_of};
 ghost use Rattle.model.specs.Parser.{run_ops};
 ghost use Rattle.model.specs.Promise.{config_count};
 ghost use Rattle.syntax.specs.View.{target_of};
@@ -112,7 +112,7 @@ impl Side {
         requires small { config_count (side_parser self.now) ≤ 2 ^ 60 }
         requires stands { Stands (side_parser self.now) c }
         requires bit { bit < 2 }
-        ensures same { config_in (side_parser self.now) result ≡ step_of_lem (side_parser self.now) (config_in (side_parser self.now) c) bit }
+        ensures same { config_in (side_parser self.now) result ≡ step_of (side_parser self.now) (config_in (side_parser self.now) c) bit }
         ensures stands { Stands (side_parser self.now) result }
     {
         match c.target {

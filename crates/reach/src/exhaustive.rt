@@ -43,10 +43,10 @@ fn report<S: System>(
     last: usize,
     at: usize,
 ) -> Swept
-    requires laid { Laid (model system.now).count plan at }
+    requires laid { Laid (S.model system.now).count plan at }
     requires fits { at + 1 + plan.words ≤ length room.old }
-    requires caught { Caught (model system.now) plan room.old roots last }
-    ensures answer { Sought (model system.now) (2 * (model system.now).count + plan.words) work result.work at room.new result.found }
+    requires caught { Caught (S.model system.now) plan room.old roots last }
+    ensures answer { Sought (S.model system.now) (2 * (S.model system.now).count + plan.words) work result.work at room.new result.found }
     ensures spent { result.work ≤ work }
 {
     let Some(way) = way::trace(system, work, room, plan, roots, last) else {
@@ -71,10 +71,10 @@ fn pursue<S: System>(
     roots: usize,
     at: usize,
 ) -> Swept
-    requires laid { Laid (model system.now).count plan at }
+    requires laid { Laid (S.model system.now).count plan at }
     requires fits { at + 1 + plan.words ≤ length room.old }
-    requires seeded { Going (model system.now) plan room.old roots roots (model system.now).starts 0 }
-    ensures answer { Sought (model system.now) (4 * (model system.now).count + plan.words) work result.work at room.new result.found }
+    requires seeded { Going (S.model system.now) plan room.old roots roots (S.model system.now).starts 0 }
+    ensures answer { Sought (S.model system.now) (4 * (S.model system.now).count + plan.words) work result.work at room.new result.found }
     ensures spent { result.work ≤ work }
 {
     match explore::explore(system, work, room, plan, roots) {
@@ -90,7 +90,7 @@ fn pursue<S: System>(
 // Goes through all configurations that bits lead to from a start, with so much work and in this room. The `gap` words after the tables are
 // left for the caller; the message stands behind them. Enough is 6 turns for each configuration and 8, and the words of the tables and the message.
 pub fn sweep<S: System>(system: &S, work: u64, room: &mut [u64], gap: u16) -> Swept
-    ensures answer { Ended (model system.now) work result.work gap room.new result.found }
+    ensures answer { Ended (S.model system.now) work result.work gap room.new result.found }
     ensures spent { result.work ≤ work }
 {
     let count = system.count();

@@ -45,14 +45,14 @@ fn enter<S: System>(
     bit: u64,
     odd: bool,
 ) -> bool
-    requires laid { Laid (model system.now).count plan (length room.old) }
-    requires spare { tail + blanks (seen plan room.old) (model system.now).count ≡ (model system.now).count }
+    requires laid { Laid (S.model system.now).count plan (length room.old) }
+    requires spare { tail + blanks (seen plan room.old) (S.model system.now).count ≡ (S.model system.now).count }
     requires fresh { seen plan room.old q ≡ false }
-    requires good { (model system.now).good q ≡ true }
-    requires below { q < (model system.now).count }
+    requires good { (S.model system.now).good q ≡ true }
+    requires below { q < (S.model system.now).count }
     requires bit { bit < 2 }
     ensures pushed { Pushed plan room.old room.new tail q (2 * q + bit) odd }
-    ensures bad { result ≡ (model system.now).bad q }
+    ensures bad { result ≡ (S.model system.now).bad q }
 {
     queue::push(room, plan, tail, q, bit, odd);
     system.is_bad(q)
@@ -60,9 +60,9 @@ fn enter<S: System>(
 
 // The starts come into the queue.
 pub fn seed<S: System>(system: &S, work: u64, room: &mut [u64], plan: Plan) -> Phase
-    requires laid { Laid (model system.now).count plan (length room.old) }
+    requires laid { Laid (S.model system.now).count plan (length room.old) }
     requires zeros { Zeroed room.old (3 * plan.words) }
-    ensures { Seeded (model system.now) plan work room.new result }
+    ensures { Seeded (S.model system.now) plan work room.new result }
 {
     let mut left = work;
     let mut tail = 0;
@@ -93,9 +93,9 @@ pub fn explore<S: System>(
     plan: Plan,
     roots: usize,
 ) -> Phase
-    requires laid { Laid (model system.now).count plan (length room.old) }
-    requires seeded { Going (model system.now) plan room.old roots roots (model system.now).starts 0 }
-    ensures { Explored (model system.now) plan work roots room.new result }
+    requires laid { Laid (S.model system.now).count plan (length room.old) }
+    requires seeded { Going (S.model system.now) plan room.old roots roots (S.model system.now).starts 0 }
+    ensures { Explored (S.model system.now) plan work roots room.new result }
 {
     let mut left = work;
     let mut tail = roots;

@@ -1,4 +1,6 @@
 // Exhaustive sweep of a system in lent room. Read system, then exhaustive; plan and queue are its tables, explore and way its two halves.
+#![tactic(auto)]
+
 mod exhaustive;
 mod explore;
 mod plan;

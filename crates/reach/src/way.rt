@@ -18,11 +18,11 @@ pub struct Way {
 
 // Is entry j a parent of entry k: at a depth of the other parity, and led to k by its bit?
 fn is_parent<S: System>(system: &S, room: &[u64], plan: Plan, j: usize, k: usize) -> bool
-    requires laid { Laid (model system.now).count plan (length room.now) }
-    requires within { (j < (model system.now).count) × (k < (model system.now).count) }
-    requires good { (model system.now).good (conf (entry plan room.now) j) ≡ true }
-    requires below { conf (entry plan room.now) j < (model system.now).count }
-    ensures { result ≡ steps (model system.now) (odd_in plan room.now) (entry plan room.now) j k }
+    requires laid { Laid (S.model system.now).count plan (length room.now) }
+    requires within { (j < (S.model system.now).count) × (k < (S.model system.now).count) }
+    requires good { (S.model system.now).good (conf (entry plan room.now) j) ≡ true }
+    requires below { conf (entry plan room.now) j < (S.model system.now).count }
+    ensures { result ≡ steps (S.model system.now) (odd_in plan room.now) (entry plan room.now) j k }
 {
     let odd = rows::get(room, plan.words, k);
     if rows::get(room, plan.words, j) == odd {
@@ -43,9 +43,9 @@ pub fn trace<S: System>(
     roots: usize,
     last: usize,
 ) -> Option<Way>
-    requires laid { Laid (model system.now).count plan (length room.old) }
-    requires caught { Caught (model system.now) plan room.old roots last }
-    ensures { Traced (model system.now) plan work room.new last result }
+    requires laid { Laid (S.model system.now).count plan (length room.old) }
+    requires caught { Caught (S.model system.now) plan room.old roots last }
+    ensures { Traced (S.model system.now) plan work room.new last result }
 {
     let mut left = work;
     rows::put(room, 2 * plan.words, last, true);

@@ -1,4 +1,6 @@
 // Where the requests of a file stand, and how much room one asks for.
+#![tactic(auto)]
+
 ghost use Rattle.std.specs.Prelude.{◌≡◌, ℕ, ◌<◌, ◌≤◌, length, MatchOption};
 ghost use Rattle.records.specs.Record.{Found, room_wanted};
 

@@ -1,6 +1,6 @@
 // An answer as bytes.
 ghost use Rattle.std.specs.Prelude.{◌≡◌, ℕ, ◌≤◌, ◌++◌, IfOk, OnOk};
-ghost use Rattle.format.specs.Written.{number as number-bytes, row as row-bytes, store as store_Bytes, answer as answer-bytes};
+ghost use Rattle.format.specs.Written.{number as number_bytes, row as row_bytes, store as store_bytes, answer as answer_bytes};
 ghost use Rattle.reply.specs.View.{answer_of};
 ghost use Rattle.reply.specs.Front.{front_row, front_store, past_store};
 ghost use Rattle.reply.specs.Appends.{Appends, difference, budget};
@@ -11,7 +11,7 @@ use std::alloc::{AllocError, Global};
 
 // The bytes of an answer that was given with this room.
 pub fn write_answer(heap: Global, answer: &Answer, room: &[u64]) -> Result<Vec<u8>, AllocError>
-    ensures { IfOk result (λ v. v.items ≡ answer-bytes (answer_of room.now answer.now)) }
+    ensures { IfOk result (λ v. v.items ≡ answer_bytes (answer_of room.now answer.now)) }
 {
     let mut out = Vec::new(heap);
     put_answer(&mut out, answer, room)?;
@@ -20,7 +20,7 @@ pub fn write_answer(heap: Global, answer: &Answer, room: &[u64]) -> Result<Vec<u
 
 // Its number, and then its values.
 fn put_answer(out: &mut Vec<u8>, answer: &Answer, room: &[u64]) -> Result<(), AllocError>
-    ensures { OnOk result (out.new.items ≡ out.old.items ++ answer-bytes (answer_of room.now answer.now)) }
+    ensures { OnOk result (out.new.items ≡ out.old.items ++ answer_bytes (answer_of room.now answer.now)) }
 {
     match *answer {
         Answer::Refused { number, offset } => {
@@ -72,7 +72,7 @@ fn put_difference(out: &mut Vec<u8>, part: &[u64]) -> Result<(), AllocError>
 // Headers' contents: how many headers there are, and then a row for each. Hands back what comes after them.
 fn put_store<'a>(out: &mut Vec<u8>, part: &'a [u64]) -> Result<&'a [u64], AllocError>
     ensures rest { IfOk result (λ rest. rest.now ≡ past_store part.now) }
-    ensures bytes { OnOk result (Appends (store_Bytes (front_store part.now)) out.old.items out.new.items) }
+    ensures bytes { OnOk result (Appends (store_bytes (front_store part.now)) out.old.items out.new.items) }
 {
     let n = count(part);
     put_number(out, 2, n)?;
@@ -87,7 +87,7 @@ fn put_store<'a>(out: &mut Vec<u8>, part: &'a [u64]) -> Result<&'a [u64], AllocE
 // A row of bits, one to a byte, after how many there are as a number of so many bytes.
 fn put_row(out: &mut Vec<u8>, width: u32, part: &[u64]) -> Result<(), AllocError>
     requires narrow { width ≤ 8 }
-    ensures { OnOk result (Appends (row-bytes width (front_row part.now)) out.old.items out.new.items) }
+    ensures { OnOk result (Appends (row_bytes width (front_row part.now)) out.old.items out.new.items) }
 {
     let n = count(part);
     put_number(out, width, n)?;
@@ -101,7 +101,7 @@ fn put_row(out: &mut Vec<u8>, width: u32, part: &[u64]) -> Result<(), AllocError
 // A number of so many bytes, the highest first.
 fn put_number(out: &mut Vec<u8>, width: u32, value: u64) -> Result<(), AllocError>
     requires narrow { width ≤ 8 }
-    ensures { OnOk result (Appends (number-bytes width value) out.old.items out.new.items) }
+    ensures { OnOk result (Appends (number_bytes width value) out.old.items out.new.items) }
 {
     for k in (0..width).rev() {
         out.push((value >> (8 * k) & 0xff) as u8)?;

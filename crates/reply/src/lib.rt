@@ -1,4 +1,6 @@
 // Answers, as bytes and as a line of text. Read answer, then room, bytes and text.
+#![tactic(auto)]
+
 mod answer;
 mod bytes;
 mod room;

@@ -1,5 +1,7 @@
 // Rows of bits in lent numbers. How they stand there is specs/Row.antt.
 // A bit is told by the word where its row begins and its place in the row, since the bits of all lent numbers could be too many for one number.
+#![tactic(auto)]
+
 ghost use Rattle.std.specs.Prelude.{◌≡◌, ℕ, ◌+◌, ◌*◌, ◌/◌, ◌^◌, ◌<◌, length, if◌then◌else◌, ◌==◌, ◌≢◌, slice_index};
 ghost use Rattle.rows.specs.Row.{bit_in};
 ghost use Rattle.rows.specs.Lowest.{Lowest};

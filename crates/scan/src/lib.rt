@@ -1,4 +1,6 @@
 // What is read from bytes at an offset: numbers, rows of bits, expressions. Read number, then expr.
+#![tactic(auto)]
+
 mod expr;
 mod fault;
 mod number;

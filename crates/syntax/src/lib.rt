@@ -1,4 +1,6 @@
 // A parser as a Rust programmer writes it: its parts, and one that was found right.
+#![tactic(auto)]
+
 mod ast;
 mod checked;
 

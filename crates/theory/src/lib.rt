@@ -1,4 +1,6 @@
 // The theory of parsers as machines: theorems, each on the contract of a function that does nothing.
+#![tactic(auto)]
+
 ghost use Rattle.model.specs.Config.{Config};
 ghost use Rattle.model.specs.Theory.{BitByBit, StoresStay, TakenAtOnce, BothWays, TimeIsNothing, ShortIsEnough};
 ghost use Rattle.theory.specs.Leap.{LeapsAreEquivalentOf};

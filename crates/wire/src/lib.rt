@@ -1,4 +1,6 @@
 // Bytes to requests. Read list, then parser, then request.
+#![tactic(auto)]
+
 mod list;
 mod parser;
 mod request;
