@@ -1,4 +1,6 @@
 // Bytes and room in, an answer out: every request is answered, or refused by the first number that applies.
+#![tactic(auto)]
+
 ghost use Rattle.std.specs.Prelude.{◌≡◌, ℕ, length, IfOk};
 ghost use Rattle.model.specs.Request.{lent, everything};
 ghost use Rattle.model.specs.Promise.{Promised};
@@ -13,12 +15,12 @@ use scan::Fault;
 use std::alloc::{AllocError, Global};
 use wire::{Request, read_request};
 
-mod compare;
+mod comparison;
 mod parse;
 mod refusal;
 mod right;
 
-use compare::settle_compare;
+use comparison::settle_compare;
 use parse::settle_parse;
 pub use refusal::Refusal;
 

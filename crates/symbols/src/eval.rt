@@ -8,7 +8,7 @@ ghost use Rattle.symbols.specs.Part.{in_row};
 ghost use Rattle.symbols.specs.View.{header_bits, symbols_in};
 ghost use Rattle.symbols.specs.Writing.{Filled};
 
-use crate::rows;
+use crate::row;
 use machine::Machine;
 use syntax::Expr;
 
@@ -35,14 +35,14 @@ pub(crate) fn fill_from(
             let size = machine.size(*h);
             let from = skip.min(size);
             let n = most.min(size - from);
-            rows::copy(out, at, heads, machine.start(*h) + from, n);
+            row::copy(out, at, heads, machine.start(*h) + from, n);
             (skip - from, n)
         }
         Expr::Bits(constant) => {
             let size = constant.len();
             let from = skip.min(size);
             let n = most.min(size - from);
-            rows::write(out, at, &constant[from..from + n]);
+            row::write(out, at, &constant[from..from + n]);
             (skip - from, n)
         }
         Expr::Slice(inner, lo, hi) => {

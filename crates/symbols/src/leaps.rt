@@ -6,7 +6,7 @@ ghost use Rattle.symbols.specs.View.{header_bits};
 ghost use Rattle.symbols.specs.Side.{Stands, Told, When, Within, WithinTop};
 
 use crate::point::{Leapt, Places, Point};
-use crate::rows::number;
+use crate::row::number;
 use crate::walk::perform;
 use machine::Machine;
 use syntax::Target;

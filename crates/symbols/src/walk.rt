@@ -8,7 +8,7 @@ ghost use Rattle.machine.specs.View.{sizes_in, state_count};
 ghost use Rattle.symbols.specs.View.{header_bits, symbols_in};
 
 use crate::eval::fill_from;
-use crate::rows;
+use crate::row;
 use machine::Machine;
 use syntax::{Expr, Op, State};
 
@@ -45,7 +45,7 @@ fn put(machine: &Machine, h: u16, heads: &mut [u64], symbols: &[u64])
     requires long { slice_index (sizes_in machine.now) h ≤ length symbols.now }
     ensures { symbols_in machine.now heads.new ≡ slice_set (symbols_in machine.now heads.old) h (take (slice_index (sizes_in machine.now) h) symbols.now) }
 {
-    rows::copy(heads, machine.start(h), symbols, 0, machine.size(h));
+    row::copy(heads, machine.start(h), symbols, 0, machine.size(h));
 }
 
 // A header gets the symbols of an expression, which may read that header: so they are written aside first.
