@@ -1,4 +1,6 @@
 // Reads files of requests, and prints a line for each answer.
+#![tactic(auto)]
+
 mod hex;
 mod options;
 mod room;
@@ -11,8 +13,35 @@ use records::{next_record, wanted_room};
 use reply::{line, write_answer};
 use room::grow;
 use std::alloc::{AllocError, Global};
-use std::fs;
 use std::io::Read;
+use std::process::ExitCode;
+use std::{fs, io};
+
+// Why it ends before all is answered. A file's name can be long, and an `anyhow::Error` keeps 120 bytes, so what is
+// said of a file is a text of its own.
+#[derive(Drop)]
+enum Failure {
+    OfFile(String),
+    Other(anyhow::Error),
+}
+
+impl From<anyhow::Error> for Failure {
+    fn from(error: anyhow::Error) -> Failure {
+        Failure::Other(error)
+    }
+}
+
+impl From<io::Error> for Failure {
+    fn from(error: io::Error) -> Failure {
+        Failure::Other(anyhow!(error))
+    }
+}
+
+impl From<AllocError> for Failure {
+    fn from(error: AllocError) -> Failure {
+        Failure::Other(anyhow!(error))
+    }
+}
 
 // The line that is printed for a request, which is lent as much room as it asks for, and no more.
 fn answer_line(
@@ -39,13 +68,15 @@ fn answer_all(
     name: &String,
     file: &[u8],
     options: &Options,
-) -> anyhow::Result<()> {
+) -> Result<(), Failure> {
     let mut room = Vec::new(rt.alloc());
     let mut at = 0;
     while let Some(record) = next_record(file, at) {
         let request = &file[record.start..record.end];
         let Ok(line) = answer_line(rt.alloc(), request, options, &mut room) else {
-            return Err(anyhow!(format!(in rt.alloc(); "{name}: byte {at}: not enough memory")?));
+            return Err(Failure::OfFile(format!(in rt.alloc();
+                "{name}: byte {at}: not enough memory"
+            )?));
         };
         rt.println(line)?;
         at = record.end;
@@ -54,7 +85,7 @@ fn answer_all(
 }
 
 // The whole file, or all of standard input.
-fn read_file(rt: &HostRuntime, name: &String) -> anyhow::Result<Vec<u8>> {
+fn read_file(rt: &HostRuntime, name: &String) -> Result<Vec<u8>, Failure> {
     if name.as_str() == "-" {
         let mut bytes = Vec::new(rt.alloc());
         rt.stdin().read_to_end(&mut bytes)?;
@@ -62,11 +93,11 @@ fn read_file(rt: &HostRuntime, name: &String) -> anyhow::Result<Vec<u8>> {
     }
     match fs::read(rt, name.as_str()) {
         Ok(bytes) => Ok(bytes),
-        Err(e) => Err(anyhow!(format!(in rt.alloc(); "{name}: {e}")?)),
+        Err(e) => Err(Failure::OfFile(format!(in rt.alloc(); "{name}: {e}")?)),
     }
 }
 
-fn run(rt: &HostRuntime) -> anyhow::Result<()> {
+fn run(rt: &HostRuntime) -> Result<(), Failure> {
     let options = Options::read(rt)?;
     if options.help {
         rt.print(options::HELP)?;
@@ -79,10 +110,16 @@ fn run(rt: &HostRuntime) -> anyhow::Result<()> {
     Ok(())
 }
 
-fn main(rt: HostRuntime) -> anyhow::Result<()> {
-    let done = run(&rt);
-    if let Err(e) = &done {
-        eprintln!(rt; "vanadiummole: {e}")?;
+// An error is told on standard error; where that can't be written to either, the status alone tells.
+fn main(rt: HostRuntime) -> ExitCode {
+    match run(&rt) {
+        Ok(()) => return ExitCode::SUCCESS,
+        Err(Failure::OfFile(text)) => {
+            let _ = eprintln!(rt; "vanadiummole: {text}");
+        }
+        Err(Failure::Other(e)) => {
+            let _ = eprintln!(rt; "vanadiummole: {e}");
+        }
     }
-    done
+    ExitCode::FAILURE
 }

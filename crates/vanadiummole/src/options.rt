@@ -1,4 +1,5 @@
 // What is asked for on the command line.
+use anyhow::anyhow;
 use std::env;
 
 // As much as most machines have to spare: 128 MiB.
@@ -53,7 +54,7 @@ impl Options {
         for arg in env::args(rt)?.skip(1) {
             if wants_number {
                 let Ok(most) = arg.as_str().parse::<u64>() else {
-                    return Err(NO_NUMBER.into());
+                    return Err(anyhow!(NO_NUMBER));
                 };
                 options.most_room = most;
                 wants_number = false;
@@ -63,12 +64,12 @@ impl Options {
                 "--hex" => options.hex = true,
                 "--help" => options.help = true,
                 "--most-room" => wants_number = true,
-                other if other.starts_with("--") => return Err(NO_OPTION.into()),
+                other if other.starts_with("--") => return Err(anyhow!(NO_OPTION)),
                 _ => options.files.push(arg)?,
             }
         }
         if wants_number {
-            return Err(NO_NUMBER.into());
+            return Err(anyhow!(NO_NUMBER));
         }
         if options.files.is_empty() {
             options.files.push(String::from_str(rt.alloc(), "-")?)?;
