@@ -4,38 +4,43 @@ use Rattle.std.specs.declared.alloc.Global.{Global}
 use Rattle.std.proofs.lemmas.Bool.{ltb-true, and_parts}
 use Rattle.std.proofs.lemmas.List.{length-take-le, length-drop, take_all}
 use Rattle.model.specs.Parser.{Store, value, same_bits}
-use Rattle.model.specs.Refusal.{are_bits, expr_width, named_expr, sized_expr}
+use Rattle.model.specs.Refusal.{are_bits, expr_width, named_expr, sized_expr, sum}
 use Rattle.model.proofs.Every.{every_drop, every_take}
 use Rattle.syntax.specs.View.{expr_of}
 use Rattle.syntax.specs.declared.ast.Expr.{Expr, Slice, Join}
 use Rattle.syntax.specs.declared.ast.Expr.TheVariants.{Header, Bits}
-use Rattle.machine.specs.Row.{headers, row_part}
+use Rattle.machine.specs.Row.{headers, part}
 use Rattle.machine.specs.Ready.{starts_from}
 use Rattle.machine.specs.Window.{window, Same, Filled, Written}
-use Rattle.machine.proofs.Rows.{sizes_kept, header_at, length_part}
+use Rattle.machine.proofs.Rows.{sizes_kept, header_at, length_part, start_room}
 use Rattle.machine.proofs.Helds.{same_decides}
 use Rattle.machine.proofs.Values.{value_long}
 use Rattle.machine.proofs.Windows.{window-part, window_slice}
 
-module _ (ns ws : List ℕ) {e : Expr} {h start size : ℕ} (is : e ≡ Header h) (named : named_expr ns (expr_of e) ≡ true)
+module _ (ns : List ℕ) (row : ℕ → ℕ) {e : Expr} {h start size : ℕ} (is : e ≡ Header h) (named : named_expr ns (expr_of e) ≡ true)
     (start_is : start ≡ get_or (starts_from 0 ns) h 0) (size_is : size ≡ get_or ns h 0) where
-  header_row : value (headers ws 0 ns) (expr_of e) ≡ row_part ws start size
+  header_row : value (headers row 0 ns) (expr_of e) ≡ part row start size
   header_row =
       let known : h < length ns = ltb-true h (length ns) (subst (λ e. named_expr ns (expr_of e) ≡ true) is named) in
-      ap (λ e. value (headers ws 0 ns) (expr_of e)) is ∙ header_at ws 0 ns h known ∙ ap₂ (row_part ws) (sym start_is) (sym size_is)
+      ap (λ e. value (headers row 0 ns) (expr_of e)) is ∙ header_at row 0 ns h known ∙ ap₂ (part row) (sym start_is) (sym size_is)
 
-  pub header_long : length (value (headers ws 0 ns) (expr_of e)) ≡ size
-  header_long = ap length header_row ∙ length_part ws start size
+  pub header_long : length (value (headers row 0 ns) (expr_of e)) ≡ size
+  header_long = ap length header_row ∙ length_part row start size
 
-  pub header_part : (f n : ℕ) → f + n ≤ size → take n (drop f (value (headers ws 0 ns) (expr_of e))) ≡ row_part ws (start + f) n
-  header_part f n l = ap (λ x. take n (drop f x)) header_row ∙ window-part ws start size f n l
+  pub header_part : (f n : ℕ) → f + n ≤ size → take n (drop f (value (headers row 0 ns) (expr_of e))) ≡ part row (start + f) n
+  header_part f n l = ap (λ x. take n (drop f x)) header_row ∙ window-part row start size f n l
+
+  pub header_room : (f n most : ℕ) → f + n ≤ size → sum ns ≤ most → start + f + n ≤ most
+  header_room f n most l room =
+      let known : h < length ns = ltb-true h (length ns) (subst (λ e. named_expr ns (expr_of e) ≡ true) is named) in
+      omega (arith, start_room 0 ns h known)
 
   -- a test of a store's bits tells of the header's
-  pub header_told : (bs : List ℕ) (f n : ℕ) {r : Bool} → f + n ≤ size → n ≤ length bs → r ≡ same_bits (row_part ws (start + f) (length (take n bs))) (take n bs)
-      → Decides r (take n bs ≡ take n (drop f (value (headers ws 0 ns) (expr_of e))))
+  pub header_told : (bs : List ℕ) (f n : ℕ) {r : Bool} → f + n ≤ size → n ≤ length bs → r ≡ same_bits (part row (start + f) (length (take n bs))) (take n bs)
+      → Decides r (take n bs ≡ take n (drop f (value (headers row 0 ns) (expr_of e))))
   header_told bs f n {r} l short told =
-      let x : List ℕ = row_part ws (start + f) (length (take n bs)) in
-      let at : x ≡ take n (drop f (value (headers ws 0 ns) (expr_of e))) = ap (row_part ws (start + f)) (length-take-le n bs short) ∙ sym (header_part f n l) in
+      let x : List ℕ = part row (start + f) (length (take n bs)) in
+      let at : x ≡ take n (drop f (value (headers row 0 ns) (expr_of e))) = ap (part row (start + f)) (length-take-le n bs short) ∙ sym (header_part f n l) in
       (λ t. sym ((same_decides x (take n bs)).0 (sym told ∙ t)) ∙ at, λ p. told ∙ (same_decides x (take n bs)).1 (at ∙ sym p))
 
 module _ (s : Store) {e : Expr} {constant : Vec ℕ Global} {row : List ℕ} (is : e ≡ Bits constant) (row_is : row ≡ vec_items constant) where
@@ -57,39 +62,39 @@ module _ (s : Store) {e : Expr} {constant : Vec ℕ Global} {row : List ℕ} (is
       let all : are_bits row ≡ true = ap are_bits row_is ∙ (and_parts _ _ (subst (λ e. sized_expr ns (expr_of e) ≡ true) is sized)).0 in
       every_take (λ b. ltb b 2) (drop f row) (every_drop (λ b. ltb b 2) row all f) n
 
-module _ (ns ws : List ℕ) {e inner : Expr} {b : Box Expr Global} {lo hi : ℕ} (is : e ≡ Slice b lo hi) (same : inner ≡ b.value)
+module _ (ns : List ℕ) (row : ℕ → ℕ) {e inner : Expr} {b : Box Expr Global} {lo hi : ℕ} (is : e ≡ Slice b lo hi) (same : inner ≡ b.value)
     (named : named_expr ns (expr_of e) ≡ true) (sized : sized_expr ns (expr_of e) ≡ true) where
-  pub slice_long : length (value (headers ws 0 ns) (expr_of e)) ≡ hi + 1 - lo
+  pub slice_long : length (value (headers row 0 ns) (expr_of e)) ≡ hi + 1 - lo
   slice_long =
       let w : suc hi - lo ≡ hi + 1 - lo = omega arith in
-      value_long (headers ws 0 ns) ns (sizes_kept ws 0 ns) (expr_of e) named sized ∙ ap (λ e. expr_width ns (expr_of e)) is ∙ w
+      value_long (headers row 0 ns) ns (sizes_kept row 0 ns) (expr_of e) named sized ∙ ap (λ e. expr_width ns (expr_of e)) is ∙ w
 
-  pub slice_part : (f n : ℕ) → f + n ≤ hi + 1 - lo → take n (drop f (value (headers ws 0 ns) (expr_of e))) ≡ window (value (headers ws 0 ns) (expr_of inner)) (lo + f) n
+  pub slice_part : (f n : ℕ) → f + n ≤ hi + 1 - lo → take n (drop f (value (headers row 0 ns) (expr_of e))) ≡ window (value (headers row 0 ns) (expr_of inner)) (lo + f) n
   slice_part f n l =
-      ap (λ x. take n (drop f (value (headers ws 0 ns) (expr_of x)))) is ∙ window_slice (value (headers ws 0 ns) (expr_of b.value)) lo hi f n (omega arith)
-      ∙ sym (ap (λ x. window (value (headers ws 0 ns) (expr_of x)) (lo + f) n) same)
+      ap (λ x. take n (drop f (value (headers row 0 ns) (expr_of x)))) is ∙ window_slice (value (headers row 0 ns) (expr_of b.value)) lo hi f n (omega arith)
+      ∙ sym (ap (λ x. window (value (headers row 0 ns) (expr_of x)) (lo + f) n) same)
 
   -- what is held to a part of the inner expression is held to the slice
   module _ (bs : List ℕ) (f n : ℕ) (l : f + n ≤ hi + 1 - lo) (short : n ≤ length bs) where
-    part : window (value (headers ws 0 ns) (expr_of inner)) (lo + f) (length (take n bs)) ≡ take n (drop f (value (headers ws 0 ns) (expr_of e)))
-    part = ap (window (value (headers ws 0 ns) (expr_of inner)) (lo + f)) (length-take-le n bs short) ∙ sym (slice_part f n l)
+    inner_part : window (value (headers row 0 ns) (expr_of inner)) (lo + f) (length (take n bs)) ≡ take n (drop f (value (headers row 0 ns) (expr_of e)))
+    inner_part = ap (window (value (headers row 0 ns) (expr_of inner)) (lo + f)) (length-take-le n bs short) ∙ sym (slice_part f n l)
 
-    part_long : length (window (value (headers ws 0 ns) (expr_of inner)) (lo + f) (length (take n bs))) ≡ n
+    part_long : length (window (value (headers row 0 ns) (expr_of inner)) (lo + f) (length (take n bs))) ≡ n
     part_long =
-        ap length part ∙ length-take-le n (drop f (value (headers ws 0 ns) (expr_of e))) (omega (arith, length-drop f (value (headers ws 0 ns) (expr_of e)), slice_long))
+        ap length inner_part ∙ length-take-le n (drop f (value (headers row 0 ns) (expr_of e))) (omega (arith, length-drop f (value (headers row 0 ns) (expr_of e)), slice_long))
 
-    pub slice_same : {left m : ℕ} → Same (value (headers ws 0 ns) (expr_of inner)) (lo + f) (take n bs) left m → take n bs ≡ take n (drop f (value (headers ws 0 ns) (expr_of e)))
-    slice_same {left} {m} held = sym (take_all m (take n bs) (omega (arith, held.count, part_long, length-take-le n bs short))) ∙ held.same ∙ part
+    pub slice_same : {left m : ℕ} → Same (value (headers row 0 ns) (expr_of inner)) (lo + f) (take n bs) left m → take n bs ≡ take n (drop f (value (headers row 0 ns) (expr_of e)))
+    slice_same {left} {m} held = sym (take_all m (take n bs) (omega (arith, held.count, part_long, length-take-le n bs short))) ∙ held.same ∙ inner_part
 
-    pub slice_apart : (take (length (window (value (headers ws 0 ns) (expr_of inner)) (lo + f) (length (take n bs)))) (take n bs) ≡ window (value (headers ws 0 ns) (expr_of inner)) (lo + f) (length (take n bs)) → ⊥)
-        → take n bs ≡ take n (drop f (value (headers ws 0 ns) (expr_of e))) → ⊥
-    slice_apart ne p = ne (ap (λ j. take j (take n bs)) part_long ∙ take_all n (take n bs) (omega (arith, length-take-le n bs short)) ∙ p ∙ sym part)
+    pub slice_apart : (take (length (window (value (headers row 0 ns) (expr_of inner)) (lo + f) (length (take n bs)))) (take n bs) ≡ window (value (headers row 0 ns) (expr_of inner)) (lo + f) (length (take n bs)) → ⊥)
+        → take n bs ≡ take n (drop f (value (headers row 0 ns) (expr_of e))) → ⊥
+    slice_apart ne p = ne (ap (λ j. take j (take n bs)) part_long ∙ take_all n (take n bs) (omega (arith, length-take-le n bs short)) ∙ p ∙ sym inner_part)
 
   -- what is written of the inner expression is of the slice
-  pub slice_wrote : {us vs : List ℕ} {at left m : ℕ} (f n : ℕ) → f + n ≤ hi + 1 - lo → Filled us vs (value (headers ws 0 ns) (expr_of inner)) (lo + f) n at left m
-      → Written us vs (take n (drop f (value (headers ws 0 ns) (expr_of e)))) at n
+  pub slice_wrote : {us vs : ℕ → ℕ} {at left m : ℕ} (f n : ℕ) → f + n ≤ hi + 1 - lo → Filled us vs (value (headers row 0 ns) (expr_of inner)) (lo + f) n at left m
+      → Written us vs (take n (drop f (value (headers row 0 ns) (expr_of e)))) at n
   slice_wrote {us} {vs} {at} {left} {m} f n l filled =
-      let v : List ℕ = value (headers ws 0 ns) (expr_of e) in
+      let v : List ℕ = value (headers row 0 ns) (expr_of e) in
       let all : m ≡ n = filled.count ∙ ap length (sym (slice_part f n l)) ∙ length-take-le n (drop f v) (omega (arith, length-drop f v, slice_long)) in
       subst (λ j. Written us vs (take n (drop f v)) at j) all (subst (λ xs. Written us vs xs at m) (sym (slice_part f n l)) filled.wrote)
 

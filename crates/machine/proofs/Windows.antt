@@ -1,7 +1,7 @@
 -- Windows of rows of bits: of two joined, of a part, of a header. Assumes nothing.
 use Rattle.std.proofs.Common.{◌≡◌, ℕ, zero, suc, ◌+◌, ◌-◌, ◌<◌, ◌≤◌, min, List, [], ◌∷◌, ◌++◌, length, get_or, take, drop, sym, refl, ap, ◌∙◌, arith}
 use Rattle.std.proofs.lemmas.List.{length-take, length-drop, length-take-le, get_or-take, get_or-drop, ext_get_or, drop-drop, drop-take, take-take}
-use Rattle.machine.specs.Row.{row_bit, row_part}
+use Rattle.machine.specs.Row.{part}
 use Rattle.machine.specs.Window.{window}
 use Rattle.machine.proofs.Rows.{length_part, part_at}
 
@@ -50,14 +50,14 @@ module _ (v : List ℕ) (k most : ℕ) {size f n : ℕ} (long : length v ≡ siz
       let short : i < n = omega (arith, used) in
       get_or-take most (drop k v) i 0 (omega arith) ∙ get_or-drop k v i 0 ∙ ap (λ j. get_or v j 0) (omega arith) ∙ sym (get_or-take n (drop f v) i 0 short ∙ get_or-drop f v i 0))
 
-pub window-part : (ws : List ℕ) (s size f n : ℕ) → f + n ≤ size → take n (drop f (row_part ws s size)) ≡ row_part ws (s + f) n
-window-part ws s size f n l =
-    let v : List ℕ = row_part ws s size in
-    let long : length (take n (drop f v)) ≡ n = length-take-le n (drop f v) (omega (arith, length-drop f v, length_part ws s size)) in
-    ext_get_or 0 (take n (drop f v)) (row_part ws (s + f) n) (long ∙ sym (length_part ws (s + f) n))
-    (λ i h.
-    let short : i < n = omega arith in
-    get_or-take n (drop f v) i 0 short ∙ get_or-drop f v i 0 ∙ part_at ws s size (f + i) (omega arith) ∙ ap (row_bit ws) (omega arith) ∙ sym (part_at ws (s + f) n i short))
+pub window-part : (f : ℕ → ℕ) (s size i n : ℕ) → i + n ≤ size → take n (drop i (part f s size)) ≡ part f (s + i) n
+window-part f s size i n l =
+    let v : List ℕ = part f s size in
+    let long : length (take n (drop i v)) ≡ n = length-take-le n (drop i v) (omega (arith, length-drop i v, length_part f s size)) in
+    ext_get_or 0 (take n (drop i v)) (part f (s + i) n) (long ∙ sym (length_part f (s + i) n))
+    (λ j h.
+    let short : j < n = omega arith in
+    get_or-take n (drop i v) j 0 short ∙ get_or-drop i v j 0 ∙ part_at f s size (i + j) (omega arith) ∙ ap f (omega arith) ∙ sym (part_at f (s + i) n j short))
 
 pub window_slice : (v : List ℕ) (lo hi f n : ℕ) → f + n ≤ suc hi - lo → take n (drop f (drop lo (take (suc hi) v))) ≡ window v (lo + f) n
 window_slice v lo hi f zero l = refl

@@ -2,6 +2,7 @@
 use Rattle.std.specs.Prelude.{ℕ, List, length, vec_items, slice_index_or}
 use Rattle.model.specs.Parser as M
 use Rattle.syntax.specs.View.{parser_of}
+use Rattle.rows.specs.Row.{bit_in}
 use Rattle.machine.specs.Row.{headers}
 use Rattle.machine.specs.declared.machine.Machine.{Machine}
 use Rattle.machine.specs.declared.store.Store.{Store}
@@ -26,7 +27,7 @@ state_count m = length (parser_in m).states
 
 -- what is in the headers
 abbrev pub contents : Machine → Store → M.Store
-contents m s = headers s.words 0 (sizes_in m)
+contents m s = headers (bit_in s.words) 0 (sizes_in m)
 
 -- where a state leads, once its ops are done
 abbrev pub selected : M.Store → M.State → M.Target

@@ -3,6 +3,7 @@ ghost use Rattle.std.specs.Prelude.{◌≡◌, ℕ, ◌+◌, ◌≤◌, true, le
 ghost use Rattle.model.specs.Parser.{value, same_bits};
 ghost use Rattle.model.specs.Refusal.{expr_width, named_expr, sized_expr};
 ghost use Rattle.syntax.specs.View.{expr_of};
+ghost use Rattle.rows.specs.Row.{bit_in};
 ghost use Rattle.machine.specs.View.{contents, sizes_in};
 ghost use Rattle.machine.specs.Window.{Held, Filled};
 
@@ -85,7 +86,7 @@ impl Machine {
         requires named { named_expr (sizes_in self.now) (expr_of e.now) ≡ true }
         requires sized { sized_expr (sizes_in self.now) (expr_of e.now) ≡ true }
         requires room { at + most ≤ 4096 }
-        ensures { Filled store.old.words store.new.words (value (contents self.now before.now) (expr_of e.now)) skip most at result.0 result.1 }
+        ensures { Filled (bit_in store.old.words) (bit_in store.new.words) (value (contents self.now before.now) (expr_of e.now)) skip most at result.0 result.1 }
     {
         match e {
             Expr::Header(h) => {

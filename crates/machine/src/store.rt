@@ -2,7 +2,8 @@
 ghost use Rattle.std.specs.Prelude.{◌≡◌, ℕ, ◌+◌, ◌<◌, ◌≤◌, true, length, if◌then◌else◌, ◌≢◌, slice_index};
 ghost use Rattle.model.specs.Parser.{same_bits};
 ghost use Rattle.model.specs.Refusal.{are_bits};
-ghost use Rattle.machine.specs.Row.{row_bit, row_part};
+ghost use Rattle.rows.specs.Row.{bit_in};
+ghost use Rattle.machine.specs.Row.{part};
 ghost use Rattle.machine.specs.Window.{Written};
 
 // As many bits as all headers of a parser have at most: 4,096.
@@ -13,7 +14,7 @@ pub struct Store {
 
 impl Store {
     pub fn empty() -> Store
-        ensures { (k : ℕ) → row_bit result.words k ≡ 0 }
+        ensures { (k : ℕ) → bit_in result.words k ≡ 0 }
     {
         Store { words: [0; 64] }
     }
@@ -21,7 +22,7 @@ impl Store {
     // its first 64 bits are those of a word, the others 0
     pub fn from_word(word: u64) -> Store
         ensures first { slice_index result.words 0 ≡ word }
-        ensures rest { (k : ℕ) → 64 ≤ k → row_bit result.words k ≡ 0 }
+        ensures rest { (k : ℕ) → 64 ≤ k → bit_in result.words k ≡ 0 }
     {
         let mut words = [0; 64];
         words[0] = word;
@@ -37,28 +38,23 @@ impl Store {
 
     pub fn get(&self, k: usize) -> u8
         requires { k < 4096 }
-        ensures { result ≡ row_bit self.now.words k }
+        ensures { result ≡ bit_in self.now.words k }
     {
-        (self.words[k / 64] >> (k % 64) & 1) as u8
+        rows::get(&self.words, 0, k) as u8
     }
 
     pub fn set(&mut self, k: usize, on: bool)
         requires { k < 4096 }
-        ensures here { row_bit self.new.words k ≡ (if on then 1 else 0) }
-        ensures others { (j : ℕ) → (j ≢ k) → row_bit self.new.words j ≡ row_bit self.old.words j }
+        ensures here { bit_in self.new.words k ≡ (if on then 1 else 0) }
+        ensures others { (j : ℕ) → (j ≢ k) → bit_in self.new.words j ≡ bit_in self.old.words j }
     {
-        let mask = 1u64 << (k % 64);
-        if on {
-            self.words[k / 64] |= mask;
-        } else {
-            self.words[k / 64] &= !mask;
-        }
+        rows::put(&mut self.words, 0, k, on);
     }
 
     // are these its bits from bit k on
     pub(crate) fn holds(&self, k: usize, bits: &[u8]) -> bool
         requires { k + length bits.now ≤ 4096 }
-        ensures { result ≡ same_bits (row_part self.now.words k (length bits.now)) bits.now }
+        ensures { result ≡ same_bits (part (bit_in self.now.words) k (length bits.now)) bits.now }
     {
         for (i, bit) in bits.iter().enumerate() {
             if self.get(k + i) != *bit {
@@ -72,7 +68,7 @@ impl Store {
     pub(crate) fn write(&mut self, k: usize, bits: &[u8])
         requires bits { are_bits bits.now ≡ true }
         requires room { k + length bits.now ≤ 4096 }
-        ensures { Written self.old.words self.new.words bits.now k (length bits.now) }
+        ensures { Written (bit_in self.old.words) (bit_in self.new.words) bits.now k (length bits.now) }
     {
         for (i, bit) in bits.iter().enumerate() {
             self.set(k + i, *bit == 1);
@@ -83,7 +79,7 @@ impl Store {
     pub(crate) fn copy(&mut self, k: usize, other: &Store, start: usize, n: usize)
         requires there { start + n ≤ 4096 }
         requires room { k + n ≤ 4096 }
-        ensures { Written self.old.words self.new.words (row_part other.now.words start n) k n }
+        ensures { Written (bit_in self.old.words) (bit_in self.new.words) (part (bit_in other.now.words) start n) k n }
     {
         for i in 0..n {
             self.set(k + i, other.get(start + i) == 1);

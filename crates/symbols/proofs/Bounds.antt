@@ -4,10 +4,11 @@ use Rattle.std.proofs.lemmas.List.{get_or-map, map-append}
 use Rattle.std.proofs.lemmas.Bool.{cases_lt, lt-ltb, le-ltb, and_from, and_parts}
 use Rattle.model.specs.Parser.{Expr, Op, Pattern, exactly, any, Store, value, run_ops}
 use Rattle.model.specs.Refusal.{are_bits, every, sized_expr, sized_op, sized_patterns, sum}
-use Rattle.symbols.specs.Part.{part, headers}
+use Rattle.machine.specs.Row.{part, headers}
 use Rattle.symbols.specs.Symbol.{symbol, Below, paired, condition_of, are_pairs}
 use Rattle.symbols.proofs.Natural.{value-map, ops_map}
-use Rattle.symbols.proofs.Placing.{length_part, part_at, map-part, map-headers}
+use Rattle.machine.proofs.Rows.{length_part, part_at}
+use Rattle.symbols.proofs.Placing.{map-part, map-headers}
 
 -- what is not below is put to 0
 abbrev clamp : ℕ → ℕ → ℕ

@@ -13,12 +13,11 @@ use Rattle.machine.specs.View.{parser_in, sizes_in, state_count, state_in}
 use Rattle.machine.specs.declared.machine.Machine.{Machine}
 use Rattle.machine.proofs.Facts.{sound_at}
 use Rattle.symbols.specs.Choice.{case_at}
-use Rattle.symbols.specs.Part.{in_row}
+use Rattle.symbols.specs.View.{in_row, symbols_in, header_bits}
 use Rattle.symbols.specs.Symbol.{store_sense, condition_of, holds, are_pairs, Below}
-use Rattle.symbols.specs.View.{symbols_in, header_bits}
 use Rattle.symbols.proofs.Bounds.{pairs_condition, row_stays}
 use Rattle.symbols.proofs.Conditions.{condition_matches}
-use Rattle.symbols.proofs.Placing.{sizes_kept}
+use Rattle.machine.proofs.Rows.{sizes_kept}
 
 -- keys and patterns that were read are those of the model
 pub keys_are : (z : State) {y : M.State} {keys : List Expr} → keys ≡ vec_items z.keys → state_of z ≡ y → map expr_of keys ≡ y.keys

@@ -2,7 +2,6 @@ pub mod Natural
 pub mod Placing
 pub mod Bounds
 pub mod Writes
-pub mod Pieces
 pub mod Points
 pub mod Reading
 pub mod Pairing

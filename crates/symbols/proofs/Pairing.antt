@@ -1,9 +1,10 @@
 -- The loop that makes pairs of symbols and bits. Assumes nothing.
 use Rattle.std.proofs.Common.{◌≡◌, ℕ, ◌+◌, ◌*◌, ◌<◌, ◌≤◌, List, [], ◌∷◌, ◌++◌, length, get_or, take, drop, set, sym, refl, ap, ◌∙◌, ap₂, arith}
 use Rattle.std.proofs.lemmas.List.{drop_more, drop_all, append_assoc, append-nil, take_more_set, length-set, get_or-set_other}
-use Rattle.symbols.specs.Part.{in_row, part}
+use Rattle.machine.specs.Row.{part}
+use Rattle.symbols.specs.View.{in_row}
 use Rattle.symbols.specs.Symbol.{paired}
-use Rattle.symbols.proofs.Placing.{part_at}
+use Rattle.machine.proofs.Rows.{part_at}
 
 -- what is written so far and the pairs of what is left make the whole, and what is left still stands where it stood
 pub record Pairing (out whole v bs : List ℕ) (at next i : ℕ) : Type 0 where

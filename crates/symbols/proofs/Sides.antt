@@ -11,17 +11,18 @@ use Rattle.machine.specs.View.{parser_in, selected, sizes_in, state_in}
 use Rattle.machine.specs.declared.machine.Machine.{Machine}
 use Rattle.theory.specs.Leap.{is_reject}
 use Rattle.theory.proofs.Waiting.{steps_none, steps_more, step_completes, waiting, completing}
-use Rattle.symbols.specs.Part.{part, headers, in_row}
+use Rattle.machine.specs.Row.{part, headers}
+use Rattle.symbols.specs.View.{in_row, symbols_in, header_bits}
 use Rattle.symbols.specs.Symbol.{symbol, sense, row_sense, store_sense, Below}
 use Rattle.symbols.specs.Side.{needed, at_positions, Told, When, Within, WithinTop}
-use Rattle.symbols.specs.View.{symbols_in, header_bits}
-use Rattle.symbols.specs.Writing.{Written}
+use Rattle.machine.specs.Window.{Written}
 use Rattle.symbols.specs.declared.point.Point.{Point}
 use Rattle.symbols.specs.declared.point.Places.{Places}
 use Rattle.symbols.specs.declared.point.Leapt.TheVariants.{Waits, Walked, Ended}
 use Rattle.symbols.proofs.Natural.{ops_map}
-use Rattle.symbols.proofs.Placing.{length_part, part_at, map-part, map-headers, same_headers, take_part}
-use Rattle.symbols.proofs.Writes.{write_join, written_part}
+use Rattle.machine.proofs.Rows.{length_part, part_at, same_headers}
+use Rattle.symbols.proofs.Placing.{map-part, map-headers, take_part}
+use Rattle.machine.proofs.Writes.{write_join, written_part}
 use Rattle.symbols.proofs.Bounds.{Stays, StoresStay, symbols_stay, append_stays, stays_at, positions_stay, stays_row, ops_stay}
 
 -- a row of fresh symbols stands for what is at their positions

@@ -7,7 +7,7 @@ use Rattle.syntax.specs.View.{target_of}
 use Rattle.machine.specs.View.{parser_in, selected, sizes_in, state_in, state_count}
 use Rattle.machine.specs.declared.machine.Machine.{Machine}
 use Rattle.theory.specs.Leap.{is_reject}
-use Rattle.symbols.specs.Part.{part, headers}
+use Rattle.machine.specs.Row.{part, headers}
 use Rattle.symbols.specs.Symbol.{row_sense, store_sense}
 use Rattle.symbols.specs.View.{symbols_in, header_bits}
 use Rattle.symbols.specs.declared.point.Point.{Point}

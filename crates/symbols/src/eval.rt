@@ -4,9 +4,8 @@ ghost use Rattle.model.specs.Parser.{value};
 ghost use Rattle.model.specs.Refusal.{named_expr, sized_expr};
 ghost use Rattle.syntax.specs.View.{expr_of};
 ghost use Rattle.machine.specs.View.{sizes_in};
-ghost use Rattle.symbols.specs.Part.{in_row};
-ghost use Rattle.symbols.specs.View.{header_bits, symbols_in};
-ghost use Rattle.symbols.specs.Writing.{Filled};
+ghost use Rattle.symbols.specs.View.{in_row, header_bits, symbols_in};
+ghost use Rattle.machine.specs.Window.{Filled};
 
 use crate::row;
 use machine::Machine;

@@ -1,8 +1,7 @@
 // One side of a leap.
 ghost use Rattle.std.specs.Prelude.{◌≡◌, ℕ, ◌+◌, ◌<◌, ◌≤◌, length};
-ghost use Rattle.symbols.specs.Part.{in_row};
+ghost use Rattle.symbols.specs.View.{in_row, header_bits};
 ghost use Rattle.symbols.specs.Symbol.{Below};
-ghost use Rattle.symbols.specs.View.{header_bits};
 ghost use Rattle.symbols.specs.Side.{Stands, Told, When, Within, WithinTop};
 
 use crate::point::{Leapt, Places, Point};

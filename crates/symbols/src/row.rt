@@ -1,8 +1,9 @@
 // Writing into rows of symbols.
 ghost use Rattle.std.specs.Prelude.{ℕ, ◌+◌, ◌≤◌, length};
-ghost use Rattle.symbols.specs.Part.{in_row, part};
+ghost use Rattle.machine.specs.Row.{part};
+ghost use Rattle.symbols.specs.View.{in_row};
 ghost use Rattle.symbols.specs.Symbol.{symbol};
-ghost use Rattle.symbols.specs.Writing.{Written};
+ghost use Rattle.machine.specs.Window.{Written};
 
 // n places from `at` on get the symbols of the positions from `first` on
 pub(crate) fn number(row: &mut [u64], at: usize, n: usize, first: u32)

@@ -5,9 +5,9 @@ ghost use Rattle.model.specs.Refusal.{every, expr_width, named_expr, sized_expr,
 ghost use Rattle.syntax.specs.View.{expr_of, pattern_of};
 ghost use Rattle.machine.specs.View.{sizes_in, state_count, state_in};
 ghost use Rattle.symbols.specs.Choice.{case_at};
-ghost use Rattle.symbols.specs.Part.{in_row, part};
+ghost use Rattle.machine.specs.Row.{part};
+ghost use Rattle.symbols.specs.View.{in_row, header_bits, symbols_in};
 ghost use Rattle.symbols.specs.Symbol.{Below, are_pairs, condition_of, holds, paired, store_sense};
-ghost use Rattle.symbols.specs.View.{header_bits, symbols_in};
 
 use crate::eval::fill_from;
 use machine::Machine;

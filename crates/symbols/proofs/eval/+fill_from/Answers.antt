@@ -3,13 +3,11 @@ use Rattle.std.proofs.lemmas.List.{length-take, length-take-le, length-drop}
 use Rattle.model.specs.Parser.{Store, value}
 use Rattle.syntax.specs.View.{expr_of}
 use Rattle.machine.specs.View.{sizes_in}
-use Rattle.machine.proofs.Exprs.{bits_long, bits_part, join_row}
+use Rattle.machine.proofs.Exprs.{bits_long, bits_part, join_row, header_long, header_part, header_room, slice_long, slice_wrote}
 use Rattle.machine.proofs.Windows.{inside}
-use Rattle.symbols.specs.Part.{in_row}
-use Rattle.symbols.specs.View.{symbols_in}
-use Rattle.symbols.specs.Writing.{Written, Filled}
-use Rattle.symbols.proofs.Pieces.{header_long, header_part, header_room, slice_long, slice_wrote}
-use Rattle.symbols.proofs.Writes.{filled_piece, filled_join, filled_within}
+use Rattle.symbols.specs.View.{in_row, symbols_in}
+use Rattle.machine.specs.Window.{Written, Filled}
+use Rattle.machine.proofs.Writes.{filled_piece, filled_join, filled_within}
 use Rattle.symbols.proofs.eval.+fill_from.Goals as goal
 
 pub copy-requires : goal.copy-requires

@@ -1,5 +1,6 @@
-use Rattle.symbols.specs.Part.{in_row, part}
-use Rattle.symbols.specs.Writing.{Written}
+use Rattle.machine.specs.Row.{part}
+use Rattle.symbols.specs.View.{in_row}
+use Rattle.machine.specs.Window.{Written}
 use Rattle.symbols.proofs.row.copy.Given as goal
 
 abbrev pub invariant-loop-i : goal.invariant-loop-i

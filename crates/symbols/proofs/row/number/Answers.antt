@@ -1,8 +1,9 @@
 use Rattle.std.proofs.Common.{◌≡◌, ◌<◌, sym, subst, arith}
-use Rattle.symbols.specs.Part.{in_row, part}
+use Rattle.machine.specs.Row.{part}
+use Rattle.symbols.specs.View.{in_row}
 use Rattle.symbols.specs.Symbol.{symbol}
-use Rattle.symbols.specs.Writing.{Written}
-use Rattle.symbols.proofs.Placing.{part_at}
+use Rattle.machine.specs.Window.{Written}
+use Rattle.machine.proofs.Rows.{part_at}
 use Rattle.symbols.proofs.Writes.{item_written}
 use Rattle.symbols.proofs.row.number.Goals as goal
 

@@ -1,6 +1,7 @@
-use Rattle.symbols.specs.Part.{in_row, part}
+use Rattle.machine.specs.Row.{part}
+use Rattle.symbols.specs.View.{in_row}
 use Rattle.symbols.specs.Symbol.{symbol}
-use Rattle.symbols.specs.Writing.{Written}
+use Rattle.machine.specs.Window.{Written}
 use Rattle.symbols.proofs.row.number.Given as goal
 
 abbrev pub invariant-loop-i : goal.invariant-loop-i

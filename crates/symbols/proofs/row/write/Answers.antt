@@ -1,6 +1,6 @@
 use Rattle.std.proofs.Common.{◌≡◌, length, refl, subst, arith}
-use Rattle.symbols.specs.Part.{in_row}
-use Rattle.symbols.specs.Writing.{Written}
+use Rattle.symbols.specs.View.{in_row}
+use Rattle.machine.specs.Window.{Written}
 use Rattle.symbols.proofs.Writes.{item_written}
 use Rattle.symbols.proofs.row.write.Goals as goal
 

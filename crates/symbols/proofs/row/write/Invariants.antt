@@ -1,5 +1,5 @@
-use Rattle.symbols.specs.Part.{in_row}
-use Rattle.symbols.specs.Writing.{Written}
+use Rattle.symbols.specs.View.{in_row}
+use Rattle.machine.specs.Window.{Written}
 use Rattle.symbols.proofs.row.write.Given as goal
 
 abbrev pub invariant-loop-i : goal.invariant-loop-i

@@ -4,9 +4,8 @@ use Rattle.model.specs.Refusal.{every, named_expr, sized_expr, sized_patterns}
 use Rattle.machine.specs.View.{sizes_in, state_in}
 use Rattle.machine.specs.declared.machine.Machine.{Machine}
 use Rattle.symbols.specs.Choice.{case_at}
-use Rattle.symbols.specs.Part.{in_row}
+use Rattle.symbols.specs.View.{in_row, symbols_in, header_bits}
 use Rattle.symbols.specs.Symbol.{store_sense, holds, are_pairs, Below}
-use Rattle.symbols.specs.View.{symbols_in, header_bits}
 use Rattle.symbols.proofs.Conditions.{behind_when}
 use Rattle.symbols.proofs.Deciding.{keys_are, patterns_are, sound_in, case_sized, case_told, case_pairs}
 use Rattle.symbols.proofs.Reading.{indexed, state_is, case_count, case_is}

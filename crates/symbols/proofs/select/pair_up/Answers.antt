@@ -1,6 +1,6 @@
 use Rattle.std.proofs.Common.{◌≡◌, ℕ, ◌+◌, ◌*◌, length, take, ap, ◌∙◌, arith}
-use Rattle.symbols.specs.Part.{in_row}
-use Rattle.symbols.proofs.Placing.{length_part}
+use Rattle.symbols.specs.View.{in_row}
+use Rattle.machine.proofs.Rows.{length_part}
 use Rattle.symbols.proofs.Pairing.{pair_none, pair_more, pair_all}
 use Rattle.symbols.proofs.select.pair_up.Goals as goal
 

@@ -1,5 +1,6 @@
 use Rattle.std.proofs.Common.{◌+◌, ◌++◌, length, take}
-use Rattle.symbols.specs.Part.{in_row, part}
+use Rattle.machine.specs.Row.{part}
+use Rattle.symbols.specs.View.{in_row}
 use Rattle.symbols.specs.Symbol.{paired}
 use Rattle.symbols.proofs.Pairing.{Pairing}
 use Rattle.symbols.proofs.select.pair_up.Given as goal

@@ -2,10 +2,12 @@ use Rattle.std.proofs.Common.{ℕ, List, ◌++◌, sym, refl, ◌∙◌, ap₂, 
 use Rattle.syntax.specs.View.{expr_of}
 use Rattle.machine.specs.View.{sizes_in}
 use Rattle.machine.proofs.Values.{value_long}
-use Rattle.symbols.specs.Part.{headers, in_row}
+use Rattle.machine.specs.Row.{headers}
+use Rattle.symbols.specs.View.{in_row}
 use Rattle.symbols.specs.Symbol.{paired}
-use Rattle.symbols.proofs.Placing.{sizes_kept}
-use Rattle.symbols.proofs.Writes.{filled_whole, filled_front}
+use Rattle.machine.proofs.Rows.{sizes_kept}
+use Rattle.machine.proofs.Writes.{filled_whole}
+use Rattle.symbols.proofs.Writes.{filled_front}
 use Rattle.symbols.proofs.select.write_pairs.Goals as goal
 
 pub fill_from-requires : goal.fill_from-requires

@@ -1,12 +1,12 @@
 use Rattle.std.proofs.Common.{ℕ, ◌≤◌, List, length, take, set, sym, ap, ◌∙◌, arith}
 use Rattle.syntax.specs.View.{expr_of}
 use Rattle.machine.specs.View.{sizes_in}
-use Rattle.machine.proofs.Rows.{start_room}
+use Rattle.machine.proofs.Rows.{start_room, sizes_kept}
 use Rattle.machine.proofs.Values.{value_long}
-use Rattle.symbols.specs.Part.{headers, in_row}
-use Rattle.symbols.specs.View.{symbols_in}
-use Rattle.symbols.proofs.Placing.{sizes_kept, take_part}
-use Rattle.symbols.proofs.Writes.{filled_whole}
+use Rattle.machine.specs.Row.{headers}
+use Rattle.symbols.specs.View.{in_row, symbols_in}
+use Rattle.symbols.proofs.Placing.{take_part}
+use Rattle.machine.proofs.Writes.{filled_whole}
 use Rattle.symbols.proofs.walk.assign.Goals as goal
 
 pub fill_from-requires : goal.fill_from-requires

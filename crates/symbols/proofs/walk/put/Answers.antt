@@ -1,10 +1,9 @@
 use Rattle.std.proofs.Common.{ℕ, ◌≤◌, List, length, take, set, sym, ap, ◌∙◌, arith}
 use Rattle.machine.specs.View.{sizes_in}
-use Rattle.machine.proofs.Rows.{start_room}
-use Rattle.symbols.specs.Part.{in_row}
-use Rattle.symbols.specs.View.{symbols_in}
-use Rattle.symbols.proofs.Placing.{length_part, take_part}
-use Rattle.symbols.proofs.Writes.{header_written}
+use Rattle.machine.proofs.Rows.{start_room, length_part}
+use Rattle.symbols.specs.View.{in_row, symbols_in}
+use Rattle.symbols.proofs.Placing.{take_part}
+use Rattle.machine.proofs.Writes.{header_written}
 use Rattle.symbols.proofs.walk.put.Goals as goal
 
 pub copy-requires : goal.copy-requires

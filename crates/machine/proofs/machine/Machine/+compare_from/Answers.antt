@@ -4,6 +4,7 @@ use Rattle.std.proofs.lemmas.Bool.{both_ways, not-true, not-false}
 use Rattle.std.proofs.lemmas.Slice.Eq.{slice_eq-Decides}
 use Rattle.model.specs.Parser.{value}
 use Rattle.syntax.specs.View.{expr_of}
+use Rattle.rows.specs.Row.{bit_in}
 use Rattle.machine.specs.View.{sizes_in, contents}
 use Rattle.machine.specs.Window.{window, Same}
 use Rattle.machine.proofs.Exprs.{header_long, header_told, bits_long, bits_told, slice_long, slice_same, slice_apart, join_row}
@@ -15,7 +16,7 @@ use Rattle.std.proofs.lemmas.Bool.Decides.{Decides-eqb}
 pub returns-then-not-holds : goal.returns-then-not-holds
 returns-then-not-holds t c =
     let ns : List ℕ = sizes_in c.args.self.now in
-    let ws : List ℕ = c.args.store.now.words in
+    let ws : ℕ → ℕ = bit_in c.args.store.now.words in
     let bs : List ℕ = c.args.bits.now in
     let v : List ℕ = value (contents c.args.self.now c.args.store.now) (expr_of c.args.e.now) in
     let long = header_long ns ws c.in-Header.is c.requires.named c.start.ensures.value c.size-size.ensures in
@@ -26,7 +27,7 @@ returns-then-not-holds t c =
 pub returns-else-not-holds : goal.returns-else-not-holds
 returns-else-not-holds t c =
     let ns : List ℕ = sizes_in c.args.self.now in
-    let ws : List ℕ = c.args.store.now.words in
+    let ws : ℕ → ℕ = bit_in c.args.store.now.words in
     let bs : List ℕ = c.args.bits.now in
     let v : List ℕ = value (contents c.args.self.now c.args.store.now) (expr_of c.args.e.now) in
     let long = header_long ns ws c.in-Header.is c.requires.named c.start.ensures.value c.size-size.ensures in
@@ -57,7 +58,7 @@ returns-else-ne t c =
 pub returns-in_err-compare_from-in-Slice : goal.returns-in_err-compare_from-in-Slice
 returns-in_err-compare_from-in-Slice t c =
     let ns : List ℕ = sizes_in c.args.self.now in
-    let ws : List ℕ = c.args.store.now.words in
+    let ws : ℕ → ℕ = bit_in c.args.store.now.words in
     let bs : List ℕ = c.args.bits.now in
     let v : List ℕ = value (contents c.args.self.now c.args.store.now) (expr_of c.args.e.now) in
     let long = slice_long ns ws c.in-Slice.is c.deref-in-Slice.ensures c.requires.named c.requires.sized in
@@ -69,7 +70,7 @@ returns-in_err-compare_from-in-Slice t c =
 pub returns-in_ok-compare_from-in-Slice : goal.returns-in_ok-compare_from-in-Slice
 returns-in_ok-compare_from-in-Slice t c =
     let ns : List ℕ = sizes_in c.args.self.now in
-    let ws : List ℕ = c.args.store.now.words in
+    let ws : ℕ → ℕ = bit_in c.args.store.now.words in
     let bs : List ℕ = c.args.bits.now in
     let v : List ℕ = value (contents c.args.self.now c.args.store.now) (expr_of c.args.e.now) in
     let long = slice_long ns ws c.in-Slice.is c.deref-in-Slice.ensures c.requires.named c.requires.sized in

@@ -2,6 +2,7 @@ use Rattle.std.proofs.Common.{◌≡◌, ℕ, List, map, length, get_or, take, s
 use Rattle.std.proofs.lemmas.List.{length-map, take_all}
 use Rattle.model.specs.Refusal.{are_bits}
 use Rattle.syntax.specs.View.{parser_of}
+use Rattle.rows.specs.Row.{bit_in}
 use Rattle.machine.specs.View.{contents, sizes_in}
 use Rattle.machine.proofs.Facts.{right_from}
 use Rattle.machine.proofs.Rows.{sizes_kept}
@@ -11,7 +12,7 @@ use Rattle.machine.proofs.machine.Machine.load.Goals as goal
 pub loop-h-init : goal.loop-h-init
 loop-h-init c =
     let ns = sizes_in c.args.self.now in
-    load_none ns (map vec_items c.args.headers.now) (contents c.args.self.now c.empty-store.result) c.requires (sizes_kept c.empty-store.result.words 0 ns)
+    load_none ns (map vec_items c.args.headers.now) (contents c.args.self.now c.empty-store.result) c.requires (sizes_kept (bit_in c.empty-store.result.words) 0 ns)
 
 pub overflow_cast-h : goal.overflow_cast-h
 overflow_cast-h c =

@@ -1,5 +1,6 @@
 use Rattle.std.proofs.Common.{◌≡◌, ℕ, ◌+◌, ◌/◌, ◌%◌, ◌<◌, cond, eqb, List, get_or, sym, ap, ◌∙◌, subst, arith}
-use Rattle.machine.specs.Row.{row_bit, row_part}
+use Rattle.rows.specs.Row.{bit_in}
+use Rattle.machine.specs.Row.{part}
 use Rattle.machine.specs.Window.{Written}
 use Rattle.machine.proofs.Rows.{part_at}
 use Rattle.machine.proofs.Small.{bit_told}
@@ -14,10 +15,10 @@ loop-i-preserved c =
     let j : ℕ = c.args.start + i in
     let within : i < c.args.n = omega arith in
     write_more c.loop-i.invariant
-    (c.set.ensures.here ∙ ap (λ b. cond (eqb b 1) 1 0) c.get.ensures ∙ bit_told (row_bit ws j) (bit_below (get_or ws (j / 64) 0) (j % 64)) ∙ sym (part_at ws c.args.start c.args.n i within))
+    (c.set.ensures.here ∙ ap (λ b. cond (eqb b 1) 1 0) c.get.ensures ∙ bit_told (bit_in ws j) (bit_below (get_or ws (j / 64) 0) (j % 64)) ∙ sym (part_at (bit_in ws) c.args.start c.args.n i within))
     c.set.ensures.others
 
 pub returns : goal.returns
 returns c =
     let all : c.loop-i.i ≡ c.args.n = omega arith in
-    subst (Written c.args.self.now.words c.loop-i.self.words (row_part c.args.other.now.words c.args.start c.args.n) c.args.k) all c.loop-i.invariant
+    subst (Written (bit_in c.args.self.now.words) (bit_in c.loop-i.self.words) (part (bit_in c.args.other.now.words) c.args.start c.args.n) c.args.k) all c.loop-i.invariant

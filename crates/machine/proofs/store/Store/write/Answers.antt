@@ -1,4 +1,5 @@
 use Rattle.std.proofs.Common.{◌≡◌, ℕ, List, length, get_or, ◌∙◌, subst, arith}
+use Rattle.rows.specs.Row.{bit_in}
 use Rattle.machine.specs.Window.{Written}
 use Rattle.machine.proofs.Small.{bit_told, bits_small}
 use Rattle.machine.proofs.Writes.{write_more}
@@ -12,4 +13,4 @@ loop-i-preserved c =
 pub returns : goal.returns
 returns c =
     let all : c.loop-i.i ≡ length c.args.bits.now = omega arith in
-    subst (Written c.args.self.now.words c.loop-i.self.words c.args.bits.now c.args.k) all c.loop-i.invariant
+    subst (Written (bit_in c.args.self.now.words) (bit_in c.loop-i.self.words) c.args.bits.now c.args.k) all c.loop-i.invariant

@@ -1,5 +1,6 @@
+use Rattle.rows.specs.Row.{bit_in}
 use Rattle.machine.specs.Window.{Written}
 use Rattle.machine.proofs.store.Store.write.Given as goal
 
 abbrev pub invariant-loop-i : goal.invariant-loop-i
-invariant-loop-i l = Written l.initial.self.words l.self.words l.bits l.k l.i
+invariant-loop-i l = Written (bit_in l.initial.self.words) (bit_in l.self.words) l.bits l.k l.i

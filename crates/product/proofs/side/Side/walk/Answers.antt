@@ -4,7 +4,7 @@ use Rattle.model.specs.Parser as M
 use Rattle.model.specs.Parser.{run_ops}
 use Rattle.model.specs.Refusal.{are_bits, sum}
 use Rattle.model.specs.Promise.{config_count}
-use Rattle.machine.specs.Row.{headers}
+use Rattle.machine.specs.Row.{bit_in, headers}
 use Rattle.machine.specs.View.{parser_in, selected, sizes_in, state_count, state_in, width_in}
 use Rattle.theory.specs.Number.{number_bits}
 use Rattle.theory.proofs.Facts.{width-widest}
@@ -24,10 +24,10 @@ module _ (s : Side) (small : config_count (parser_in s.machine) ≤ 2 ^ 60) wher
   narrow = omega (arith, bits_small s small)
 
   -- what is in the headers is in the first word
-  contents_are : (ws : List ℕ) {w : ℕ} → w ≡ get_or ws 0 0 → headers ws 0 (sizes_in s.machine) ≡ store_of (sizes_in s.machine) w
+  contents_are : (ws : List ℕ) {w : ℕ} → w ≡ get_or ws 0 0 → headers (bit_in ws) 0 (sizes_in s.machine) ≡ store_of (sizes_in s.machine) w
   contents_are ws is = contents_word ws (sizes_in s.machine) narrow ∙ sym (ap (store_of (sizes_in s.machine)) is)
 
-  kept : (ws : List ℕ) {w r : ℕ} → w ≡ get_or ws 0 0 → r ≡ w % 2 ^ s.header_bits → store_of (sizes_in s.machine) r ≡ headers ws 0 (sizes_in s.machine)
+  kept : (ws : List ℕ) {w r : ℕ} → w ≡ get_or ws 0 0 → r ≡ w % 2 ^ s.header_bits → store_of (sizes_in s.machine) r ≡ headers (bit_in ws) 0 (sizes_in s.machine)
   kept ws {w} is low =
       ap (store_of (sizes_in s.machine)) (low ∙ ap (λ h. w % 2 ^ h) s.headers) ∙ store_of_low (sizes_in s.machine) w ∙ sym (contents_are ws is)
 
