@@ -23,7 +23,7 @@ use Rattle.compare.proofs.Suffix.{row_same}
 
 module _ (s : Product) where
   pub safe_told : Safe (pair_model (comparison_of s)) → Equivalent (comparison_of s)
-  safe_told = safe_is_equivalent (comparison_of s) s.first.machine.checked.right s.second.machine.checked.right s.first.begins s.second.begins
+  safe_told = safe_is_equivalent (comparison_of s) s.first.side.machine.checked.right s.second.side.machine.checked.right s.first.side.begins s.second.side.begins
 
   -- the message stands in the room, and the headers before it
   pub leads_told : (pair at after : ℕ) (before room : List ℕ) → after ≡ at + header_room s → Leads (pair_model (comparison_of s)) pair (row_in before after) → Headed s pair at before room
@@ -31,7 +31,7 @@ module _ (s : Product) where
   leads_told pair at after before room after_is leads headed =
       let message : row_in room (store_end room (store_end room at)) ≡ row_in before after =
       ap (row_in room) headed.end ∙ row_same before room (at + header_room s) headed.rest ∙ ap (row_in before) (sym after_is) in
-      let told = leading_distinguishes (comparison_of s) s.first.machine.checked.right s.second.machine.checked.right s.first.begins s.second.begins pair (row_in before after) leads in
+      let told = leading_distinguishes (comparison_of s) s.first.side.machine.checked.right s.second.side.machine.checked.right s.first.side.begins s.second.side.begins pair (row_in before after) leads in
       subst (λ bs. Distinguished (comparison_of s) (store_in room at) (store_in room (store_end room at)) bs) (sym message)
       (subst (λ t. Distinguished (comparison_of s) (store_in room at) t (row_in before after)) (sym headed.second)
       (subst (λ u. Distinguished (comparison_of s) u (number_config (second_in s) (pair % config_count (second_in s))).store (row_in before after)) (sym headed.first) told))

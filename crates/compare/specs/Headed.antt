@@ -9,14 +9,14 @@ use Rattle.product.specs.declared.product.Product.{Product}
 use Rattle.compare.specs.Pieces.{store_words}
 
 abbrev pub first_in : Product → Parser
-first_in s = parser_in s.first.machine
+first_in s = parser_in s.first.side.machine
 
 abbrev pub second_in : Product → Parser
-second_in s = parser_in s.second.machine
+second_in s = parser_in s.second.side.machine
 
 -- how many numbers both take
 abbrev pub header_room : Product → ℕ
-header_room s = store_words (sizes_in s.first.machine) + store_words (sizes_in s.second.machine)
+header_room s = store_words (sizes_in s.first.side.machine) + store_words (sizes_in s.second.side.machine)
 
 -- what is in the headers at a pair stands from `at` on, and what comes after it is as it was
 pub record Headed (s : Product) (pair at : ℕ) (before room : List ℕ) : Type 0 where

@@ -23,18 +23,18 @@ pub(crate) fn write_headers(product: &Product, pair: u64, room: &mut [u64], at: 
     ensures { Headed product.now pair at room.old room.new }
 {
     let (first, second) = product.headers(pair);
-    let next = at + header_words(&product.first) as usize;
+    let next = at + header_words(&product.first.side) as usize;
     // the second's first: what is written before it leaves it as it is
     write_store(
         room,
         next,
-        product.second.machine.checked.parser.sizes.as_slice(),
+        product.second.side.machine.checked.parser.sizes.as_slice(),
         second,
     );
     write_store(
         room,
         at,
-        product.first.machine.checked.parser.sizes.as_slice(),
+        product.first.side.machine.checked.parser.sizes.as_slice(),
         first,
     );
 }

@@ -15,8 +15,8 @@ pub(crate) fn sweep_pairs(product: &Product, work: u64, left: u64, room: &mut [u
     requires { room_for (pair_count (comparison_of product.now)) + 65536 ≤ length room.old }
     ensures { Told (comparison_of product.now) work left (answer_of room.new result) }
 {
-    let first = header_words(&product.first);
-    let second = header_words(&product.second);
+    let first = header_words(&product.first.side);
+    let second = header_words(&product.second.side);
     let ended = sweep(product, work, room, first + second);
     match ended.found {
         Found::Clean => Answer::Alike {

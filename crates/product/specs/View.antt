@@ -34,4 +34,4 @@ pub record Stands (p : M.Parser) (c : Config) : Type 0 where
 
 -- what two parsers are compared by, with no budget
 abbrev pub comparison_of : Product → Comparison
-comparison_of s = comparison (side_parser s.first) (side_parser s.second) s.first.start s.second.start
+comparison_of s = comparison (side_parser s.first.side) (side_parser s.second.side) s.first.side.start s.second.side.start

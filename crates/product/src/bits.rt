@@ -27,8 +27,8 @@ pub(crate) fn spread(bits: u64, n: usize) -> [u8; 64]
     ensures long { length result ≡ 64 }
 {
     let mut part = [0; 64];
-    for i in 0..n {
-        part[i] = (bits >> i & 1) as u8;
+    for (i, bit) in part[..n].iter_mut().enumerate() {
+        *bit = (bits >> i & 1) as u8;
     }
     part
 }

@@ -9,3 +9,6 @@ pub struct Config {
     pub(crate) headers: u64,
     pub(crate) buffer: u64,
 }
+
+// A buffer that holds no bits.
+pub(crate) const EMPTY: u64 = 1;

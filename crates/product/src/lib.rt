@@ -1,16 +1,18 @@
-// Two parsers as one system that can be swept. Read config and side, then size, bits and step, then product and pair.
+// Two parsers as one system that can be swept. Read config, side and counted, then size, bits and step, then product and pair.
 #![tactic(auto)]
 
 ghost use Rattle.product.specs.Pair.{SafeIsEquivalent, LeadingDistinguishes};
 
 mod bits;
 mod config;
+mod counted;
 mod pair;
 mod product;
 mod side;
 mod size;
 mod step;
 
+pub use counted::Counted;
 pub use product::Product;
 pub use side::Side;
 

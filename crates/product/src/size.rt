@@ -34,13 +34,18 @@ impl Side {
         ensures { MatchOption result (2 ^ 60 < config_count (side_parser self.now)) (λ n. (n ≡ config_count (side_parser self.now)) × (n ≤ 2 ^ 60)) }
     {
         let bits = self.header_bits + self.buffer_bits;
-        if bits > MOST_BITS {
-            return None;
-        }
-        let targets = self.machine.checked.parser.states.len() as u64 + 2;
-        if targets > 1 << (MOST_BITS - bits) {
+        let left = MOST_BITS.checked_sub(bits)?;
+        let targets = self.states() + 2;
+        if targets > 1 << left {
             return None;
         }
         Some(targets << bits)
+    }
+
+    // How many states its parser has.
+    pub(crate) fn states(&self) -> u64
+        ensures { result ≡ state_count self.now.machine }
+    {
+        self.machine.checked.parser.states.len() as u64
     }
 }

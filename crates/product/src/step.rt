@@ -10,83 +10,77 @@ ghost use Rattle.product.specs.Pair.{accepts_number, good_number, header_number,
 ghost use Rattle.product.specs.View.{config_in, side_parser, store_of, Stands};
 
 use crate::bits::{low, push, spread};
-use crate::config::Config;
-use crate::side::Side;
+use crate::config::{Config, EMPTY};
+use crate::counted::Counted;
 use machine::Store;
 use syntax::Target;
 
-impl Side {
+impl Counted {
     // The number of where its parser is at first, with the bits of i in the headers.
     pub(crate) fn begin(&self, i: u64) -> u64
-        requires small { config_count (side_parser self.now) ≤ 2 ^ 60 }
-        requires within { i < store_count (side_parser self.now) }
-        ensures value { result ≡ start_number (side_parser self.now) self.now.start i }
-        ensures good { good_number (side_parser self.now) result ≡ true }
-        ensures below { result < config_count (side_parser self.now) }
+        requires { i < store_count (side_parser self.now.side) }
+        ensures value { result ≡ start_number (side_parser self.now.side) self.now.side.start i }
+        ensures good { good_number (side_parser self.now.side) result ≡ true }
+        ensures below { result < config_count (side_parser self.now.side) }
     {
         self.encode(Config {
-            target: Target::State(self.start),
+            target: Target::State(self.side.start),
             headers: i,
-            buffer: 1,
+            buffer: EMPTY,
         })
     }
 
     // The number of where a bit leads.
     pub(crate) fn next(&self, k: u64, bit: u64) -> u64
-        requires small { config_count (side_parser self.now) ≤ 2 ^ 60 }
-        requires good { good_number (side_parser self.now) k ≡ true }
+        requires good { good_number (side_parser self.now.side) k ≡ true }
         requires bit { bit < 2 }
-        ensures value { result ≡ next_number (side_parser self.now) k bit }
-        ensures good { good_number (side_parser self.now) result ≡ true }
-        ensures below { result < config_count (side_parser self.now) }
+        ensures value { result ≡ next_number (side_parser self.now.side) k bit }
+        ensures good { good_number (side_parser self.now.side) result ≡ true }
+        ensures below { result < config_count (side_parser self.now.side) }
     {
         self.encode(self.step(self.decode(k), bit))
     }
 
     // Has its parser come to accept.
     pub(crate) fn accepts(&self, k: u64) -> bool
-        requires { config_count (side_parser self.now) ≤ 2 ^ 60 }
-        ensures { result ≡ accepts_number (side_parser self.now) k }
+        ensures { result ≡ accepts_number (side_parser self.now.side) k }
     {
-        let target = (k >> self.buffer_bits) >> self.header_bits;
-        target == self.machine.checked.parser.states.len() as u64
+        matches!(self.target(k), Target::Accept)
     }
 
     // What is in the headers, as a number.
     pub(crate) fn headers(&self, k: u64) -> u64
-        requires { config_count (side_parser self.now) ≤ 2 ^ 60 }
-        ensures { result ≡ header_number (side_parser self.now) k }
+        ensures { result ≡ header_number (side_parser self.now.side) k }
     {
-        low(k >> self.buffer_bits, self.header_bits)
+        low(k >> self.side.buffer_bits, self.side.header_bits)
     }
 
     fn decode(&self, k: u64) -> Config
-        requires small { config_count (side_parser self.now) ≤ 2 ^ 60 }
-        requires good { good_number (side_parser self.now) k ≡ true }
-        ensures same { config_in (side_parser self.now) result ≡ number_config (side_parser self.now) k }
-        ensures stands { Stands (side_parser self.now) result }
+        requires { good_number (side_parser self.now.side) k ≡ true }
+        ensures same { config_in (side_parser self.now.side) result ≡ number_config (side_parser self.now.side) k }
+        ensures stands { Stands (side_parser self.now.side) result }
     {
         Config {
-            target: self.target((k >> self.buffer_bits) >> self.header_bits),
+            target: self.target(k),
             headers: self.headers(k),
-            buffer: low(k, self.buffer_bits),
+            buffer: low(k, self.side.buffer_bits),
         }
     }
 
     fn encode(&self, c: Config) -> u64
-        requires small { config_count (side_parser self.now) ≤ 2 ^ 60 }
-        requires stands { Stands (side_parser self.now) c }
-        ensures { result ≡ config_number (side_parser self.now) (config_in (side_parser self.now) c) }
+        requires { Stands (side_parser self.now.side) c }
+        ensures { result ≡ config_number (side_parser self.now.side) (config_in (side_parser self.now.side) c) }
     {
-        let high = self.target_number(c.target) << self.header_bits | c.headers;
-        high << self.buffer_bits | c.buffer
+        let high = self.target_number(c.target) << self.side.header_bits | c.headers;
+        high << self.side.buffer_bits | c.buffer
     }
 
-    // states by their numbers, then accept and reject
-    fn target(&self, number: u64) -> Target
-        ensures { target_of result ≡ number_target (state_count self.now.machine) number }
+    // Its highest bits: states by their numbers, then accept and reject.
+    fn target(&self, k: u64) -> Target
+        ensures { target_of result ≡ (number_config (side_parser self.now.side) k).target }
     {
-        let states = self.machine.checked.parser.states.len() as u64;
+        let number = (k >> self.side.buffer_bits) >> self.side.header_bits;
+        let states = self.side.states();
         if number < states {
             Target::State(number as u16)
         } else if number == states {
@@ -97,9 +91,9 @@ impl Side {
     }
 
     fn target_number(&self, target: Target) -> u64
-        ensures { result ≡ target_number (state_count self.now.machine) (target_of target) }
+        ensures { result ≡ target_number (state_count self.now.side.machine) (target_of target) }
     {
-        let states = self.machine.checked.parser.states.len() as u64;
+        let states = self.side.states();
         match target {
             Target::State(q) => q as u64,
             Target::Accept => states,
@@ -109,52 +103,46 @@ impl Side {
 
     // A state that still lacks bits keeps this one, else it is walked through; one more after an end is reject.
     fn step(&self, c: Config, bit: u64) -> Config
-        requires small { config_count (side_parser self.now) ≤ 2 ^ 60 }
-        requires stands { Stands (side_parser self.now) c }
+        requires stands { Stands (side_parser self.now.side) c }
         requires bit { bit < 2 }
-        ensures same { config_in (side_parser self.now) result ≡ step_of (side_parser self.now) (config_in (side_parser self.now) c) bit }
-        ensures stands { Stands (side_parser self.now) result }
+        ensures same { config_in (side_parser self.now.side) result ≡ step_of (side_parser self.now.side) (config_in (side_parser self.now.side) c) bit }
+        ensures stands { Stands (side_parser self.now.side) result }
     {
         match c.target {
             Target::State(q) => {
                 let held = c.buffer.ilog2();
                 let buffer = push(c.buffer, held, bit);
-                let n = self.machine.width(q);
+                let n = self.side.machine.width(q);
                 if (held as usize) + 1 < n {
-                    Config {
-                        target: c.target,
-                        headers: c.headers,
-                        buffer,
-                    }
+                    Config { buffer, ..c }
                 } else {
                     self.walk(q, c.headers, buffer, n)
                 }
             }
             Target::Accept | Target::Reject => Config {
                 target: Target::Reject,
-                headers: c.headers,
-                buffer: 1,
+                buffer: EMPTY,
+                ..c
             },
         }
     }
 
     // Through a state, on the lowest n bits of a number.
     fn walk(&self, q: u16, headers: u64, bits: u64, n: usize) -> Config
-        requires small { config_count (side_parser self.now) ≤ 2 ^ 60 }
-        requires known { q < state_count self.now.machine }
-        requires wide { n ≡ width_in self.now.machine q }
-        ensures done { store_of (sizes_in self.now.machine) result.headers ≡ run_ops (sizes_in self.now.machine) (state_in self.now.machine q).ops (number_bits n bits) (store_of (sizes_in self.now.machine) headers) }
-        ensures leads { target_of result.target ≡ selected (store_of (sizes_in self.now.machine) result.headers) (state_in self.now.machine q) }
-        ensures below { result.headers < store_count (side_parser self.now) }
+        requires known { q < state_count self.now.side.machine }
+        requires wide { n ≡ width_in self.now.side.machine q }
+        ensures done { store_of (sizes_in self.now.side.machine) result.headers ≡ run_ops (sizes_in self.now.side.machine) (state_in self.now.side.machine q).ops (number_bits n bits) (store_of (sizes_in self.now.side.machine) headers) }
+        ensures leads { target_of result.target ≡ selected (store_of (sizes_in self.now.side.machine) result.headers) (state_in self.now.side.machine q) }
+        ensures below { result.headers < store_count (side_parser self.now.side) }
         ensures empty { result.buffer ≡ 1 }
     {
         let part = spread(bits, n);
         let mut store = Store::from_word(headers);
-        let target = self.machine.walk(q, &mut store, &part[0..n]);
+        let target = self.side.machine.walk(q, &mut store, &part[..n]);
         Config {
             target,
-            headers: low(store.word(), self.header_bits),
-            buffer: 1,
+            headers: low(store.word(), self.side.header_bits),
+            buffer: EMPTY,
         }
     }
 }

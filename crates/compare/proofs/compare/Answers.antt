@@ -25,7 +25,7 @@ returns c =
     let most : c.saturating_sub-left.result ≤ min c.args.most_room (length c.args.room.now) = omega (arith, left_is) in
     let told =
     subst (λ t. Told (compared c.args.first t 0 0) c.args.work left a) c.in-Ok.ensures.1
-    (subst (λ s. Told (compared s c.in-Ok.product.second 0 0) c.args.work left a) c.in-Ok.ensures.0 c.sweep_pairs.ensures) in
+    (subst (λ s. Told (compared s c.in-Ok.product.second.side 0 0) c.args.work left a) c.in-Ok.ensures.0 c.sweep_pairs.ensures) in
     record {
       right = told_right c.args.first c.args.second c.args.work given left a told most;
       answers = told_answered c.args.first c.args.second c.args.work given left a told;

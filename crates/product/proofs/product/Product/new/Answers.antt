@@ -3,7 +3,7 @@ use Rattle.model.specs.Promise.{config_count}
 use Rattle.machine.specs.View.{parser_in}
 use Rattle.product.specs.declared.side.Side.{Side}
 use Rattle.product.proofs.Exponents.{count_some, first_factor, second_factor}
-use Rattle.product.proofs.Joining.{product_above, product_within}
+use Rattle.product.proofs.Joining.{product_above}
 use Rattle.product.proofs.product.Product.new.Goals as goal
 
 abbrev count : Side → ℕ
@@ -34,12 +34,3 @@ module _ (a b : Side) {f d : ℕ} (f_is : f ≡ count a) (d_is : d ≡ count b) 
 pub returns-then-first_count-second_count : goal.returns-then-first_count-second_count
 returns-then-first_count-second_count c =
     (refl, refl, above c.args.first c.args.second c.in-Some.ensures.0 c.in-Some-count.ensures.0 c.if-first_count-second_count.true)
-
-pub invariant_of-result : goal.invariant_of-result
-invariant_of-result c =
-    let second = c.in-Some-count.ensures.0 in
-    record {
-      firsts = c.in-Some.ensures.0;
-      seconds = second;
-      small = product_within c.in-Some.first_count c.in-Some-count.second_count (2 ^ 60) (some c.args.second second) c.if-first_count-second_count.false;
-    }

@@ -1,34 +1,34 @@
-use Rattle.std.proofs.Common.{ℕ, ◌^◌, ◌≤◌, refl, ap, ◌∙◌, inl, inr, ⊎_elim, arith}
+use Rattle.std.proofs.Common.{ℕ, ◌≤◌, refl, ap, ◌∙◌, inl, inr, ⊎_elim, arith}
 use Rattle.model.specs.Parser.{Parser, run_ops}
 use Rattle.model.specs.Refusal.{widest}
-use Rattle.model.specs.Promise.{config_count}
 use Rattle.syntax.specs.View.{target_of}
 use Rattle.syntax.specs.declared.ast.Target.{Target}
 use Rattle.theory.specs.Number.{number_bits}
 use Rattle.machine.specs.View.{parser_in, sizes_in, state_in}
 use Rattle.product.specs.declared.config.Config.{Config}
+use Rattle.product.specs.declared.counted.Counted.{Counted}
 use Rattle.product.specs.declared.side.Side.{Side}
 use Rattle.product.specs.View.{store_of}
 use Rattle.product.proofs.Exponents.{bits_small}
 use Rattle.product.proofs.Steps.{Stepped, buffer_small, held_few, needs_state, waits, leaves, ends}
-use Rattle.product.proofs.side.Side.step.Goals as goal
+use Rattle.product.proofs.counted.Counted.step.Goals as goal
 
-wide : (s : Side) → config_count (parser_in s.machine) ≤ 2 ^ 60 → widest (sizes_in s.machine) (parser_in s.machine).states ≤ 59
-wide s small = omega (arith, bits_small s small)
+wide : (s : Counted) → widest (sizes_in s.side.machine) (parser_in s.side.machine).states ≤ 59
+wide s = omega (arith, bits_small s)
 
 pub push-buffer-requires : goal.push-buffer-requires
 push-buffer-requires c =
-    let s : Side = c.args.self.now in
+    let s : Side = c.args.self.now.side in
     let w : ℕ = widest (sizes_in s.machine) (parser_in s.machine).states in
     record {
-      small = buffer_small w c.args.c.buffer (wide s c.requires.small) c.requires.stands.buffer;
-      within = held_few w c.args.c.buffer (wide s c.requires.small) c.requires.stands.buffer c.ilog2-held.result c.ilog2-held.ensures.power_le;
+      small = buffer_small w c.args.c.buffer (wide c.args.self.now) c.requires.stands.buffer;
+      within = held_few w c.args.c.buffer (wide c.args.self.now) c.requires.stands.buffer c.ilog2-held.result c.ilog2-held.ensures.power_le;
       bit = c.requires.bit;
     }
 
 pub returns-then-held-n : goal.returns-then-held-n
 returns-then-held-n c =
-    let s : Side = c.args.self.now in
+    let s : Side = c.args.self.now.side in
     let p : Parser = parser_in s.machine in
     let r : Config = record { target = c.args.c.target; headers = c.args.c.headers; buffer = c.push-buffer.result } in
     let more = needs_state p (ap target_of c.in-State.is) in
@@ -39,7 +39,7 @@ returns-then-held-n c =
 
 pub returns-else-held-n : goal.returns-else-held-n
 returns-else-held-n c =
-    let s : Side = c.args.self.now in
+    let s : Side = c.args.self.now.side in
     let p : Parser = parser_in s.machine in
     let r : Config = c.walk.result in
     let stepped : Stepped p c.args.c c.args.bit r =
@@ -51,7 +51,7 @@ returns-else-held-n c =
 
 pub returns-in-Accept : goal.returns-in-Accept
 returns-in-Accept c =
-    let s : Side = c.args.self.now in
+    let s : Side = c.args.self.now.side in
     let p : Parser = parser_in s.machine in
     let r : Config = record { target = Target.Reject; headers = c.args.c.headers; buffer = 1 } in
     let stepped : Stepped p c.args.c c.args.bit r =

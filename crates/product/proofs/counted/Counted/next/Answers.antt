@@ -8,11 +8,11 @@ use Rattle.product.specs.declared.side.Side.{Side}
 use Rattle.product.specs.Pair.{good_number}
 use Rattle.product.specs.View.{config_in}
 use Rattle.product.proofs.Numbers.{below, is_good}
-use Rattle.product.proofs.side.Side.next.Goals as goal
+use Rattle.product.proofs.counted.Counted.next.Goals as goal
 
 pub returns : goal.returns
 returns c =
-    let s : Side = c.args.self.now in
+    let s : Side = c.args.self.now.side in
     let p : Parser = parser_in s.machine in
     let a = config_in p c.step.result in
     let good = c.step.ensures.stands.good in

@@ -10,7 +10,7 @@ use Rattle.product.specs.Pair.{good_number, store_count}
 use Rattle.product.specs.View.{config_in, Stands}
 use Rattle.product.proofs.Numbers.{below, is_good}
 use Rattle.product.proofs.Packing.{begun, begun_stands}
-use Rattle.product.proofs.side.Side.begin.Goals as goal
+use Rattle.product.proofs.counted.Counted.begin.Goals as goal
 
 -- where a side begins
 abbrev first : Side → ℕ → Config
@@ -20,14 +20,14 @@ stands : (s : Side) (i : ℕ) → i < store_count (parser_in s.machine) → Stan
 stands s i l = begun_stands (parser_in s.machine) s.machine.checked.right s.start s.begins i (first s i) refl refl refl l
 
 pub encode-requires : goal.encode-requires
-encode-requires c = record { small = c.requires.small; stands = stands c.args.self.now c.args.i c.requires.within }
+encode-requires c = stands c.args.self.now.side c.args.i c.requires
 
 pub returns : goal.returns
 returns c =
-    let s : Side = c.args.self.now in
+    let s : Side = c.args.self.now.side in
     let p : Parser = parser_in s.machine in
     let a = config_in p (first s c.args.i) in
-    let good = (stands s c.args.i c.requires.within).good in
+    let good = (stands s c.args.i c.requires).good in
     record {
       value = c.encode.ensures ∙ ap (config_number p) (begun p s.machine.checked.right s.start s.begins c.args.i (first s c.args.i) refl refl refl);
       good = subst (λ k. good_number p k ≡ true) (sym c.encode.ensures) (is_good p s.machine.checked.right s.start s.begins a good);

@@ -1,0 +1,12 @@
+use Rattle.std.proofs.Common.{◌/◌, ◌%◌, ◌^◌, ◌∙◌, ap₂}
+use Rattle.product.proofs.Exponents.{headers-narrow, buffer_narrow}
+use Rattle.product.proofs.counted.Counted.headers.Goals as goal
+
+pub overflow_shr-k : goal.overflow_shr-k
+overflow_shr-k c = buffer_narrow c.args.self.now
+
+pub low-requires : goal.low-requires
+low-requires c = headers-narrow c.args.self.now
+
+pub returns : goal.returns
+returns c = c.low.ensures ∙ ap₂ (λ w h. c.args.k / 2 ^ w % 2 ^ h) c.args.self.now.side.wide c.args.self.now.side.headers
