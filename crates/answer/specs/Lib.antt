@@ -1,1 +1,1 @@
-pub mod Refusing
+pub use Rattle.settling.specs.Refusing

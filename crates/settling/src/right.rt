@@ -5,7 +5,7 @@ ghost use Rattle.model.specs.Refusal.{fault};
 ghost use Rattle.scan.specs.Reads.{Within};
 ghost use Rattle.syntax.specs.View.{parser_of};
 ghost use Rattle.wire.specs.Kept.{shallow_parser};
-ghost use Rattle.comparing.specs.Refusing.{number_of, offset_of};
+ghost use Rattle.settling.specs.Refusing.{number_of, offset_of};
 
 use crate::refusal::Refusal;
 use checks::{Fault, check};
@@ -18,8 +18,5 @@ pub fn checked(parser: Option<Parser>) -> Result<Checked, Refusal>
     let Some(parser) = parser else {
         return Err(Refusal::Wrong(Fault::Limits));
     };
-    match check(parser) {
-        Ok(checked) => Ok(checked),
-        Err(fault) => Err(Refusal::Wrong(fault)),
-    }
+    check(parser).map_err(Refusal::Wrong)
 }

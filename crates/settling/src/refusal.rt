@@ -1,10 +1,11 @@
 // Why a request is not answered, in the order in which it is looked for.
 ghost use Rattle.std.specs.Prelude.{◌≡◌};
-ghost use Rattle.answer.specs.Refusing.{number_of, offset_of};
+ghost use Rattle.settling.specs.Refusing.{number_of, offset_of, refused_by};
 
 use checks::Fault;
+use reply::Answer;
 
-#[derive(Clone, Copy)]
+#[derive(Clone, Copy, PartialEq, Eq, Debug)]
 pub enum Refusal {
     // the bytes cease to be a request
     Garbled(usize),
@@ -33,6 +34,17 @@ impl Refusal {
         match self {
             Refusal::Garbled(at) => at as u64,
             Refusal::Wrong(_) | Refusal::Unfit => 0,
+        }
+    }
+}
+
+impl From<Refusal> for Answer {
+    ghost from_gives = { λ refusal a. a ≡ refused_by refusal };
+
+    fn from(refusal: Refusal) -> Answer {
+        Answer::Refused {
+            number: refusal.number(),
+            offset: refusal.offset(),
         }
     }
 }
