@@ -1,7 +1,3 @@
 pub mod Parts
-pub mod Looks
 pub mod Trails
-pub mod Denied
-pub mod Ends
 pub mod Spending
-pub mod Growing
