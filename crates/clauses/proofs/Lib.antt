@@ -1,3 +1,7 @@
-pub mod Parts
+pub mod Bits
+pub mod Growing
+pub mod Looks
+pub mod Reading
+pub mod Sats
 pub mod Trails
 pub mod Spending

@@ -28,6 +28,12 @@ Both k v cs (Err Conflict) = ⊥
 Both k v cs (Err Refused) = Unit {0}
 Both k v cs (Err Exhausted) = Unit {0}
 
+-- lists that were read on, in the same numbers
+pub record ReadOn (lists lists' : Lists) : Type 0 where
+  pub numbers : lists'.numbers ≡ lists.numbers
+  pub ahead : lists.at ≤ lists'.at
+  pub inside : lists'.at - lists.at ≤ length lists.numbers.now - lists.at
+
 -- the clauses at the starts on a stack
 abbrev pub stacked : List ℕ → Stack → List (List ℕ)
 stacked numbers starts = clauses_at numbers (take starts.len starts.room.now)
@@ -43,8 +49,5 @@ pub record Grown (most : ℕ) (lists : Lists) (starts : Stack) (known : Bits) (w
   pub grows : starts.len ≤ starts'.len
   pub room : starts'.room.ghost_name ≡ starts.room.ghost_name
   pub long : length starts'.room.now ≡ length starts.room.now
-  -- the index after what was read, in the same numbers
-  pub numbers : lists'.numbers ≡ lists.numbers
-  pub ahead : lists.at ≤ lists'.at
-  pub inside : lists'.at - lists.at ≤ length lists.numbers.now - lists.at
+  pub read : ReadOn lists lists'
   pub spent : Spent work work' ((lists'.at - lists.at) * most) (IsErrOf r Exhausted)

@@ -4,7 +4,7 @@ ghost use Rattle.std.specs.Prelude.{◌≡◌, ℕ, ◌+◌, ◌-◌, ◌*◌, �
 ghost use Rattle.clauses.specs.Clauses.{Sat, All, clause_at};
 ghost use Rattle.clauses.specs.Known.{Allows, Given, Kept};
 ghost use Rattle.clauses.specs.Budget.{Spent};
-ghost use Rattle.clauses.specs.Steps.{After, clauses_of};
+ghost use Rattle.clauses.specs.Steps.{After, ReadOn, clauses_of};
 
 use crate::known::Known;
 use crate::lists::Lists;
@@ -67,6 +67,18 @@ fn refute(
     run_hints(premises, known, hints, work)
 }
 
+// What the end of a refutation shows.
+fn shown(end: Result<(), Stop>) -> Result<bool, Exhausted>
+    ensures yes { result ≡ Ok true → IsErrOf end Stop.Conflict }
+    ensures short { IsErr result → IsErrOf end Stop.Exhausted }
+{
+    match end {
+        Err(Stop::Conflict) => Ok(true),
+        Err(Stop::Exhausted) => Err(Exhausted),
+        Ok(()) | Err(Stop::Refused) => Ok(false),
+    }
+}
+
 /// Whether the goal follows from the premises by the hints, for each valuation that is allowed.
 pub fn follows(
     premises: &Premises,
@@ -85,11 +97,7 @@ pub fn follows(
     let base = known.trail.len;
     let end = refute(premises, known, goal, hints, work);
     known.undo(base);
-    match end {
-        Err(Stop::Conflict) => Ok(true),
-        Err(Stop::Exhausted) => Err(Exhausted),
-        Ok(()) | Err(Stop::Refused) => Ok(false),
-    }
+    shown(end)
 }
 
 /// Whether the clause at `goal` follows from the premises by the hints that are read next, for each valuation that is allowed.
@@ -104,9 +112,7 @@ pub fn follows_by(
     ensures same { known.new.value.now ≡ known.old.value.now }
     ensures kept { Kept known.old known.new }
     ensures depth { known.new.trail.len ≡ known.old.trail.len }
-    ensures numbers { lists.new.numbers ≡ lists.old.numbers }
-    ensures ahead { lists.old.at ≤ lists.new.at }
-    ensures inside { lists.new.at - lists.old.at ≤ length lists.old.numbers.now - lists.old.at }
+    ensures read { ReadOn lists.old lists.new }
     ensures spent { Spent work.old.left work.new.left ((lists.new.at - lists.old.at) * premises.now.most) (IsErr result) }
 {
     let Some(goal) = premises.clause(goal) else {

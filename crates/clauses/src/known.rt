@@ -31,6 +31,7 @@ pub enum Bit {
 }
 
 impl<'a> Known<'a> {
+    #[tactic(auto, unfolding(crate::specs::Clauses::bit))]
     fn valued(&self, q: usize) -> Option<Bit>
         ensures { Resolved self.now q result }
     {
@@ -43,6 +44,7 @@ impl<'a> Known<'a> {
     }
 
     /// What is known of position p, if its numbers are as they should be.
+    #[tactic(auto, unfolding(crate::specs::Clauses::bit))]
     pub fn resolve(&self, p: usize) -> Option<Bit>
         ensures { Resolved self.now p result }
     {
@@ -55,6 +57,7 @@ impl<'a> Known<'a> {
     }
 
     /// Position q, which is unknown, has the bit b from now on.
+    #[tactic(auto, unfolding(crate::specs::Clauses::bit))]
     pub(crate) fn push(&mut self, q: usize, b: bool) -> Result<(), Full>
         requires { (q < length self.old.value.now) × (slice_index self.old.value.now q ≡ 2) }
         ensures kept { Kept self.old self.new }
@@ -66,6 +69,7 @@ impl<'a> Known<'a> {
     }
 
     /// Position p has the bit b from now on. There is a conflict if it has the other.
+    #[tactic(auto, unfolding(crate::specs::Clauses::bit))]
     pub fn assume(&mut self, p: usize, b: bool) -> Result<(), Stop>
         ensures kept { Kept self.old self.new }
         ensures after { (v : ℕ → Bool) → Allows self.old v → bit (v p) ≡ bit b → After self.new v result }

@@ -6,8 +6,13 @@ ghost use Rattle.clauses.specs.Clauses.{Stands, clause_at};
 pub fn list_at(numbers: &[u64], s: usize) -> Option<&[u64]>
     ensures { MatchOption result (Stands numbers.now s → ⊥) (λ list. (Stands numbers.now s) × (list.now ≡ clause_at numbers.now s)) }
 {
-    let (n, rest) = numbers.get(s..)?.split_first()?;
-    rest.get(..*n as usize)
+    let n = *numbers.get(s)?;
+    let rest = &numbers[s + 1..];
+    if n <= rest.len() as u64 {
+        Some(&rest[..n as usize])
+    } else {
+        None
+    }
 }
 
 /// Lists that stand one after the other, read from `at` on.

@@ -1,5 +1,5 @@
 // What a clause says beyond what is known.
-ghost use Rattle.std.specs.Prelude.{◌≡◌, ℕ, ◌/◌, ◌%◌, List, [], ◌∷◌, ◌++◌};
+ghost use Rattle.std.specs.Prelude.{◌≡◌, ℕ, ◌/◌, ◌%◌, List, [], ◌∷◌, ◌++◌, Some};
 ghost use Rattle.clauses.specs.Clauses.{bit};
 ghost use Rattle.clauses.specs.Known.{Resolved, Looked};
 ghost use Rattle.clauses.specs.declared.known.Known.{Known as Bits};
@@ -17,19 +17,22 @@ pub enum Look {
 }
 
 impl Look {
-    // What a clause says with one more literal, of which this bit is known.
-    fn or(self, found: Option<Bit>, negated: bool) -> Look
-        ensures { (k : Bits) (ls : List ℕ) (l : ℕ) → l % 2 ≡ bit negated → Resolved k (l / 2) found → Looked k ls self → Looked k (ls ++ (l ∷ [])) result }
+    // What a clause says with one more literal, of which this is known.
+    #[tactic(auto, unfolding(crate::specs::Clauses::bit))]
+    fn or(self, found: Bit, negated: bool) -> Look
+        ensures { (k : Bits) (ls : List ℕ) (l : ℕ) → l % 2 ≡ bit negated → Resolved k (l / 2) (Some found) → Looked k ls self → Looked k (ls ++ (l ∷ [])) result }
     {
-        match (found, self) {
-            (Some(Bit::Known(b)), before) if b == negated => before,
-            (Some(Bit::Open(q)), Look::Dead) => Look::One {
-                position: q,
-                value: !negated,
+        match found {
+            Bit::Known(b) if b == negated => self,
+            Bit::Known(_) => Look::Other,
+            Bit::Open(q) => match self {
+                Look::Dead => Look::One {
+                    position: q,
+                    value: !negated,
+                },
+                Look::One { position, value } if position == q && value != negated => self,
+                _ => Look::Other,
             },
-            (Some(Bit::Open(q)), Look::One { position, value })
-                if position == q && value != negated => self,
-            _ => Look::Other,
         }
     }
 
@@ -40,7 +43,10 @@ impl Look {
         let mut says = Look::Dead;
         for l in clause {
             let l = Literal::from(*l);
-            says = says.or(known.resolve(l.position), l.negated);
+            let Some(found) = known.resolve(l.position) else {
+                return Look::Other;
+            };
+            says = says.or(found, l.negated);
         }
         says
     }
