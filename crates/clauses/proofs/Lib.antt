@@ -1,7 +1,7 @@
-pub mod Parts
-pub mod Looks
-pub mod Trails
-pub mod Denied
-pub mod Ends
-pub mod Spending
+pub mod Bits
 pub mod Growing
+pub mod Looks
+pub mod Reading
+pub mod Sats
+pub mod Trails
+pub mod Spending

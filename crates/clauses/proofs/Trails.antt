@@ -1,9 +1,10 @@
 -- What is known, and the trail.
-use Rattle.std.proofs.Common.{◌≡◌, ℕ, ◌+◌, ◌<◌, ◌≤◌, Bool, List, length, get_or, set, sym, refl, ap, ◌∙◌, inl, inr, ⊎_elim, arith, length-set}
+use Rattle.std.proofs.Common.{◌≡◌, ℕ, ◌+◌, ◌<◌, ◌≤◌, Bool, List, length, get_or, set, sym, refl, ap, ◌∙◌, subst, inl, inr, ⊎_elim, arith, length-set}
 use Rattle.std.proofs.lemmas.List.{get_or-set_same, get_or-set_other, get_or_past, ext_get_or}
 use Rattle.std.proofs.lemmas.Bool.{cases_eq}
 use Rattle.clauses.specs.Clauses.{bit}
-use Rattle.clauses.specs.Known.{Fits, Trailed, On, Kept, Undone}
+use Rattle.clauses.specs.Known.{Fits, Allows, Trailed, On, Since, Kept, Undone}
+use Rattle.clauses.specs.declared.known.Known.{Known as Bits}
 
 pub fits-set : (v : ℕ → Bool) (rep value : List ℕ) (q b : ℕ) → q < length value → bit (v q) ≡ b → Fits v rep value → Fits v rep (set value q b)
 fits-set v rep value q b within is h = record {
@@ -77,6 +78,16 @@ trailed_inside before value trail base d q h le top past =
     let none : get_or before q 0 ≡ 0 = get_or_past before q 0 (omega (arith, h.long)) in
     omega arith
 
+-- the same of a trail that is now shorter
+pub popped : (before value trail trail' : List ℕ) (base d d' q : ℕ) → trail' ≡ trail → d ≡ d' + 1 → q ≡ get_or trail d' 0 → base ≤ d' → q < length value → Trailed before value trail base d → Trailed before (set value q 2) trail' base d'
+popped before value trail trail' base d d' q same less top le within h =
+    subst (λ t. Trailed before (set value q 2) t base d') (sym same)
+    (trailed_pop before value trail base d' q (subst (λ x. Trailed before value trail base x) less h) le (sym top) within)
+
+pub popped_inside : (before value trail : List ℕ) (base d d' q : ℕ) → d ≡ d' + 1 → q ≡ get_or trail d' 0 → base ≤ d' → length value ≤ q → Trailed before value trail base d → ⊥
+popped_inside before value trail base d d' q less top le past h =
+    trailed_inside before value trail base d' q (subst (λ x. Trailed before value trail base x) less h) le (sym top) past
+
 pub trailed_none : (value trail : List ℕ) (d : ℕ) → d ≤ length trail → Trailed value value trail d d
 trailed_none value trail d h = record {
   low = omega arith;
@@ -91,17 +102,35 @@ trailed_back before value trail d h =
     ext_get_or 0 value before h.long
     (λ i l. ⊎_elim (λ old. old) (λ (on : On trail d d i). absurd (omega (arith, on.1, on.2))) (h.changed i))
 
+pub allows_same : (v : ℕ → Bool) (k k' : Bits) → k'.rep ≡ k.rep → k'.value.now ≡ k.value.now → Allows k v → Allows k' v
+allows_same v k k' rep value h = rw (rep, value) h
+
+-- nothing happened
+pub kept_none : (k : Bits) → Kept k k
+kept_none k = record { same = record { rep = refl; value = refl; trail = refl }; undoes = λ before base h. h }
+
+-- one step and then another
+pub kept_both : (k k₁ k₂ : Bits) → Kept k k₁ → Kept k₁ k₂ → Kept k k₂
+kept_both k k₁ k₂ h g = record {
+  same = record { rep = g.same.rep ∙ h.same.rep; value = g.same.value ∙ h.same.value; trail = g.same.trail ∙ h.same.trail };
+  undoes = λ before base t. g.undoes before base (h.undoes before base t);
+}
+
 -- some steps and then undone
-module _ (value trail value₁ trail₁ value₂ : List ℕ) (d d₁ : ℕ) (deep : d ≤ length trail) (kept : Kept value trail d value₁ trail₁ d₁) (undone : Undone value₁ trail₁ d d₁ value₂) where
-  pub undone_same : value₂ ≡ value
+module _ (k k₁ k₂ : Bits) (kept : Kept k k₁) (undone : Undone k₁ k.trail.len k₂) where
+  entry : Since k.value.now k.trail.len k₁
+  entry = kept.undoes k.value.now k.trail.len (trailed_none k.value.now k.trail.room.now k.trail.len k.trail.within)
+
+  pub undone_depth : k₂.trail.len ≡ k.trail.len
+  undone_depth = undone.depth entry.low
+
+  pub undone_same : k₂.value.now ≡ k.value.now
   undone_same =
-      let t = kept value d (trailed_none value trail d deep) in
-      trailed_back value value₂ trail₁ d (undone value d (omega arith) t.low t)
+      let t = undone.undoes k.value.now k.trail.len (omega arith) entry.low entry in
+      trailed_back k.value.now k₂.value.now k₂.trail.room.now k.trail.len (subst (λ d. Trailed k.value.now k₂.value.now k₂.trail.room.now k.trail.len d) undone_depth t)
 
-  pub undone_kept : Kept value trail d value₂ trail₁ d
-  undone_kept before base h =
-      let t = kept value d (trailed_none value trail d deep) in
-      undone before base h.low t.low (kept before base h)
-
-pub kept_deep : (value trail value₁ trail₁ : List ℕ) (d d₁ : ℕ) → d ≤ length trail → Kept value trail d value₁ trail₁ d₁ → d₁ ≤ length trail₁
-kept_deep value trail value₁ trail₁ d d₁ deep kept = (kept value d (trailed_none value trail d deep)).deep
+  pub undone_kept : Kept k k₂
+  undone_kept = record {
+    same = record { rep = undone.same.rep ∙ kept.same.rep; value = undone.same.value ∙ kept.same.value; trail = undone.same.trail ∙ kept.same.trail };
+    undoes = λ before base h. undone.undoes before base h.low entry.low (kept.undoes before base h);
+  }

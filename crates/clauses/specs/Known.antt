@@ -1,8 +1,9 @@
 -- What is known of the valuations looked at, and the trail by which it is undone. Assumes nothing.
-use Rattle.std.specs.Prelude.{◌≡◌, ℕ, ◌-◌, ◌<◌, ◌≤◌, Bool, ◌⊎◌, List, length, slice_index}
+use Rattle.std.specs.Prelude.{◌≡◌, ℕ, ◌-◌, ◌<◌, ◌≤◌, Bool, ◌⊎◌, List, length, slice_index, Option, Some, None}
 use Rattle.clauses.specs.Clauses.{bit, Sat, All}
-use Rattle.clauses.specs.declared.bits.Bit.{Bit}
-use Rattle.clauses.specs.declared.bits.Bit.TheVariants.{Known, Open, Nowhere}
+use Rattle.clauses.specs.declared.known.Known.{Known as Bits}
+use Rattle.clauses.specs.declared.known.Bit.{Bit}
+use Rattle.clauses.specs.declared.known.Bit.TheVariants.{Known, Open}
 use Rattle.clauses.specs.declared.look.Look.{Look}
 use Rattle.clauses.specs.declared.look.Look.TheVariants.{Dead, One, Other}
 
@@ -12,17 +13,25 @@ pub record Fits (v : ℕ → Bool) (rep value : List ℕ) : Type 0 where
   pub equal : (p : ℕ) → p < length rep → 2 ≤ slice_index rep p → bit (v p) ≡ bit (v (slice_index rep p - 2))
   pub known : (p : ℕ) → p < length value → slice_index value p < 2 → bit (v p) ≡ slice_index value p
 
+-- what is known of the bits allows the valuation v
+abbrev pub Allows : Bits → (ℕ → Bool) → Type 0
+Allows k v = Fits v k.rep.now k.value.now
+
+-- position q has a place in the lent room, and its bit is unknown
+abbrev pub Unknown : Bits → ℕ → Type 0
+Unknown k q = (q < length k.value.now) × (slice_index k.value.now q ≡ 2)
+
 -- what is known of position p
-abbrev pub Resolved : List ℕ → List ℕ → ℕ → Bit → Type 0
-Resolved rep value p (Known b) = (b < 2) × ((v : ℕ → Bool) → Fits v rep value → bit (v p) ≡ b)
-Resolved rep value p (Open q) = (q < length value) × (slice_index value q ≡ 2) × ((v : ℕ → Bool) → Fits v rep value → bit (v p) ≡ bit (v q))
-Resolved rep value p Nowhere = Unit {0}
+abbrev pub Resolved : Bits → ℕ → Option Bit → Type 0
+Resolved k p (Some (Known b)) = (v : ℕ → Bool) → Allows k v → bit (v p) ≡ bit b
+Resolved k p (Some (Open q)) = Unknown k q × ((v : ℕ → Bool) → Allows k v → bit (v p) ≡ bit (v q))
+Resolved k p None = Unit {0}
 
 -- what a clause says beyond what is known: nothing can satisfy it, or it fixes one bit
-abbrev pub Looked : List ℕ → List ℕ → List ℕ → Look → Type 0
-Looked rep value ls Dead = (v : ℕ → Bool) → Fits v rep value → Sat v ls → ⊥
-Looked rep value ls (One q b) = (q < length value) × (slice_index value q ≡ 2) × (b < 2) × ((v : ℕ → Bool) → Fits v rep value → Sat v ls → bit (v q) ≡ b)
-Looked rep value ls Other = Unit {0}
+abbrev pub Looked : Bits → List ℕ → Look → Type 0
+Looked k ls Dead = (v : ℕ → Bool) → Allows k v → Sat v ls → ⊥
+Looked k ls (One q b) = Unknown k q × ((v : ℕ → Bool) → Allows k v → Sat v ls → bit (v q) ≡ bit b)
+Looked k ls Other = Unit {0}
 
 -- q stands on the trail
 abbrev pub On : List ℕ → ℕ → ℕ → ℕ → Type 0
@@ -36,14 +45,28 @@ pub record Trailed (before value trail : List ℕ) (base depth : ℕ) : Type 0 w
   pub changed : (q : ℕ) → (slice_index value q ≡ slice_index before q) ⊎ On trail base depth q
   pub was : (k : ℕ) → base ≤ k → k < depth → slice_index before (slice_index trail k) ≡ 2
 
+-- the same of what is known, in its lent room
+abbrev pub Since : List ℕ → ℕ → Bits → Type 0
+Since before base k = Trailed before k.value.now k.trail.room.now base k.trail.len
+
+-- the same representatives, and the same lent room
+pub record Same (k k' : Bits) : Type 0 where
+  pub rep : k'.rep ≡ k.rep
+  pub value : k'.value.ghost_name ≡ k.value.ghost_name
+  pub trail : k'.trail.room.ghost_name ≡ k.trail.room.ghost_name
+
 -- what could so be undone still can
-abbrev pub Kept : List ℕ → List ℕ → ℕ → List ℕ → List ℕ → ℕ → Type 0
-Kept value trail depth value' trail' depth' = (before : List ℕ) (base : ℕ) → Trailed before value trail base depth → Trailed before value' trail' base depth'
+pub record Kept (k k' : Bits) : Type 0 where
+  pub same : Same k k'
+  pub undoes : (before : List ℕ) (base : ℕ) → Since before base k → Since before base k'
 
--- taken back from depth to base
-abbrev pub Undone : List ℕ → List ℕ → ℕ → ℕ → List ℕ → Type 0
-Undone value trail base depth value' = (before : List ℕ) (b : ℕ) → b ≤ base → base ≤ depth → Trailed before value trail b depth → Trailed before value' trail b base
+-- taken back to base
+pub record Undone (k : Bits) (base : ℕ) (k' : Bits) : Type 0 where
+  pub same : Same k k'
+  pub room : k'.trail.room.now ≡ k.trail.room.now
+  pub depth : base ≤ k.trail.len → k'.trail.len ≡ base
+  pub undoes : (before : List ℕ) (b : ℕ) → b ≤ base → base ≤ k.trail.len → Since before b k → Since before b k'
 
--- the clause is satisfied by each valuation that fits and satisfies the premises
-abbrev pub Given : List ℕ → List ℕ → List (List ℕ) → List ℕ → Type 0
-Given rep value cs ls = (v : ℕ → Bool) → Fits v rep value → All v cs → Sat v ls
+-- the clause is satisfied by each valuation that is allowed and satisfies the premises
+abbrev pub Given : Bits → List (List ℕ) → List ℕ → Type 0
+Given k cs ls = (v : ℕ → Bool) → Allows k v → All v cs → Sat v ls

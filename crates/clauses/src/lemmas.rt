@@ -1,156 +1,73 @@
 // Lemmas that are read and shown one after the other, each by those before it.
-ghost use Rattle.std.specs.Prelude.{◌≡◌, ℕ, ◌≤◌, Bool, length, ◌≢◌};
-ghost use Rattle.clauses.specs.Clauses.{Stands, Sat, clause_at};
-ghost use Rattle.clauses.specs.Known.{Fits, Kept};
+ghost use Rattle.std.specs.Prelude.{◌≡◌, ℕ, Bool, length, IsErrOf};
+ghost use Rattle.clauses.specs.Clauses.{Sat};
+ghost use Rattle.clauses.specs.Known.{Allows, Kept};
 ghost use Rattle.clauses.specs.Steps.{After, Grown};
 
-use crate::hints::{Verdict, follows_by};
-use crate::look::stands;
-use crate::trail::{End, Step, assume};
-
-#[derive(Clone, Copy)]
-pub struct Added {
-    pub depth: usize,
-    /// How many premises there are now.
-    pub count: usize,
-    /// The index after what was read.
-    pub next: usize,
-    pub end: End,
-    pub left: u64,
-}
+use crate::hints::follows_by;
+use crate::known::Known;
+use crate::lists::Lists;
+use crate::literal::Literal;
+use crate::premises::Premises;
+use crate::stack::Stack;
+use crate::stop::Stop;
+use budget::Work;
 
 // The bit that a clause of one literal fixes is known from now on.
-fn settle(
-    numbers: &[u64],
-    rep: &[u64],
-    value: &mut [u64],
-    trail: &mut [u64],
-    depth: usize,
-    s: usize,
-) -> Step
-    requires { Stands numbers.now s }
-    ensures kept { Kept value.old trail.old depth value.new trail.new result.depth }
-    ensures after { (v : ℕ → Bool) → Fits v rep.now value.old → Sat v (clause_at numbers.now s) → After v rep.now value.new result.end }
-    ensures free { result.end ≢ End.Exhausted }
+fn settle(known: &mut Known, clause: &[u64]) -> Result<(), Stop>
+    ensures kept { Kept known.old known.new }
+    ensures after { (v : ℕ → Bool) → Allows known.old v → Sat v clause.now → After known.new v result }
+    ensures free { IsErrOf result Stop.Exhausted → ⊥ }
 {
-    if numbers[s] != 1 {
-        return Step {
-            depth,
-            end: End::More,
-        };
-    }
-    let l = numbers[s + 1];
-    assume(rep, value, trail, depth, (l / 2) as usize, 1 - l % 2)
+    let [l] = clause else {
+        return Ok(());
+    };
+    let l = Literal::from(*l);
+    known.assume(l.position, !l.negated)
 }
 
-// Adds the lemma at `at`, a clause and its hints, to the premises.
+// Adds the lemma that is read next, a clause and its hints, to the premises.
 fn add_lemma(
-    numbers: &[u64],
-    starts: &mut [u64],
-    count: usize,
-    rep: &[u64],
-    value: &mut [u64],
-    trail: &mut [u64],
-    depth: usize,
-    at: usize,
+    lists: &mut Lists,
+    starts: &mut Stack,
     most: u64,
-    work: u64,
-) -> Added
-    requires { (count ≤ length starts.old) × (depth ≤ length trail.old) }
-    ensures { Grown numbers.now rep.now most starts.old value.old trail.old count depth at work starts.new value.new trail.new result }
+    known: &mut Known,
+    work: &mut Work,
+) -> Result<(), Stop>
+    ensures { Grown most lists.old starts.old known.old work.old.left lists.new starts.new known.new work.new.left result }
 {
-    if count >= starts.len() || !stands(numbers, at) {
-        return Added {
-            depth,
-            count,
-            next: at,
-            end: End::Refused,
-            left: work,
-        };
+    let at = lists.at;
+    let Some(lemma) = lists.next() else {
+        return Err(Stop::Refused);
+    };
+    let premises = Premises {
+        numbers: lists.numbers,
+        starts: starts.as_slice(),
+        most,
+    };
+    if !follows_by(&premises, known, at, lists, work)? {
+        return Err(Stop::Refused);
     }
-    let hints_at = at + 1 + numbers[at] as usize;
-    let shown = follows_by(
-        numbers, starts, count, rep, value, trail, depth, at, hints_at, most, work,
-    );
-    match shown.verdict {
-        Verdict::Yes => {
-            starts[count] = at as u64;
-            let step = settle(numbers, rep, value, trail, depth, at);
-            Added {
-                depth: step.depth,
-                count: count + 1,
-                next: shown.next,
-                end: step.end,
-                left: shown.left,
-            }
-        }
-        Verdict::No => Added {
-            depth,
-            count,
-            next: shown.next,
-            end: End::Refused,
-            left: shown.left,
-        },
-        Verdict::Exhausted => Added {
-            depth,
-            count,
-            next: shown.next,
-            end: End::Exhausted,
-            left: shown.left,
-        },
-    }
+    starts.push(at as u64)?;
+    settle(known, lemma)
 }
 
-/// Adds the lemmas that stand at `at`, a number of them and then each as a clause and its hints, to the premises; the bit of a lemma of one literal is known from then on.
+/// Adds the lemmas that are read next, a number of them and then each as a clause and its hints, to the premises at `starts`; the bit of a lemma of one
+/// literal is known from then on.
 pub fn add_lemmas(
-    numbers: &[u64],
-    starts: &mut [u64],
-    count: usize,
-    rep: &[u64],
-    value: &mut [u64],
-    trail: &mut [u64],
-    depth: usize,
-    at: usize,
+    lists: &mut Lists,
+    starts: &mut Stack,
     most: u64,
-    work: u64,
-) -> Added
-    requires { (count ≤ length starts.old) × (depth ≤ length trail.old) }
-    ensures { Grown numbers.now rep.now most starts.old value.old trail.old count depth at work starts.new value.new trail.new result }
+    known: &mut Known,
+    work: &mut Work,
+) -> Result<(), Stop>
+    ensures { Grown most lists.old starts.old known.old work.old.left lists.new starts.new known.new work.new.left result }
 {
-    if at >= numbers.len() {
-        return Added {
-            depth,
-            count,
-            next: at,
-            end: End::Refused,
-            left: work,
-        };
-    }
-    let n = numbers[at];
-    let mut so_far = Added {
-        depth,
-        count,
-        next: at + 1,
-        end: End::More,
-        left: work,
+    let Some(n) = lists.number() else {
+        return Err(Stop::Refused);
     };
     for _ in 0..n {
-        so_far = add_lemma(
-            numbers,
-            starts,
-            so_far.count,
-            rep,
-            value,
-            trail,
-            so_far.depth,
-            so_far.next,
-            most,
-            so_far.left,
-        );
-        match so_far.end {
-            End::More => {}
-            _ => return so_far,
-        }
+        add_lemma(lists, starts, most, known, work)?;
     }
-    so_far
+    Ok(())
 }

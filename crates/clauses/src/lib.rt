@@ -1,16 +1,26 @@
 //! Clauses over bits in lent numbers, what is known of the bits, and the one rule by which a clause follows from others by hints.
-// Read bits (what is known of a position), trail (assume and undo), look (what a clause says), hints (the rule), lemmas (premises added by it).
+// Read lists (lists in lent numbers), literal, premises, stack (a stack in lent room), known (what is known of the bits: assume and undo), look (what a
+// clause says), hints (the rule), lemmas (premises added by it).
 //
 // A use: the premises stand at starts[..count]. Assume what is known, add the lemmas that stand at `at`, then show each goal by the hints that follow:
 //
-//     let step = assume(rep, value, trail, 0, p, 1);
-//     let added = add_lemmas(numbers, starts, count, rep, value, trail, step.depth, at, most, work);
-//     let shown = follows_by(numbers, starts, added.count, rep, value, trail, added.depth, goal, added.next, most, added.left);
-//     undo(value, trail, 0, added.depth);
+//     let mut known = Known { rep, value, trail: Stack::new(trail, 0) };
+//     let mut starts = Stack::new(starts, count);
+//     let mut lists = Lists { numbers, at };
+//     let mut work = Work { left };
+//     known.assume(p, true)?;
+//     add_lemmas(&mut lists, &mut starts, most, &mut known, &mut work)?;
+//     let premises = Premises { numbers, starts: starts.as_slice(), most };
+//     let yes = follows_by(&premises, &mut known, goal, &mut lists, &mut work)?;
+//     known.undo(0);
 #![tactic(auto)]
 
-pub mod bits;
 pub mod hints;
+pub mod known;
 pub mod lemmas;
+pub mod lists;
+pub mod literal;
 pub mod look;
-pub mod trail;
+pub mod premises;
+pub mod stack;
+pub mod stop;

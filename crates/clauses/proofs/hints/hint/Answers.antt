@@ -1,19 +1,14 @@
-use Rattle.std.proofs.Common.{arith}
-use Rattle.clauses.proofs.Parts.{all_at}
-use Rattle.clauses.proofs.Ends.{done_not_out}
-use Rattle.clauses.proofs.Spending.{spent_price}
+use Rattle.std.proofs.Common.{◌≡◌, sym, subst}
+use Rattle.clauses.specs.Clauses.{Sat}
+use Rattle.clauses.proofs.Sats.{all_at}
 use Rattle.clauses.proofs.hints.hint.Goals as goal
 
-pub returns-in-Dead : goal.returns-in-Dead
-returns-in-Dead c = record {
-  kept = λ before base h. h;
-  after = λ v fits all. c.in-Dead.ensures v fits (all_at v c.args.numbers.now c.args.starts.now c.args.count c.args.c c.requires.0 (omega arith) all);
-  spent = spent_price c.args.work c.cost-price.result c.args.most _ (omega arith) c.cost-price.ensures.limit done_not_out;
-}
+pub returns-in-Dead-clause-after : goal.returns-in-Dead-clause-after
+returns-in-Dead-clause-after c = λ v fits all.
+    let e = c.in-Some.ensures in
+    c.in-Dead.ensures v fits (subst (λ x. Sat v x) (sym e.1.0) (all_at v _ _ c.args.c e.0 all))
 
-pub returns-in-One : goal.returns-in-One
-returns-in-One c = record {
-  kept = c.push-step.ensures.kept;
-  after = λ v fits all. c.push-step.ensures.after v c.args.rep.now fits (c.in-One.ensures.3 v fits (all_at v c.args.numbers.now c.args.starts.now c.args.count c.args.c c.requires.0 (omega arith) all));
-  spent = spent_price c.args.work c.cost-price.result c.args.most _ (omega arith) c.cost-price.ensures.limit c.push-step.ensures.free;
-}
+pub returns-in_ok-push-in-One-clause-after : goal.returns-in_ok-push-in-One-clause-after
+returns-in_ok-push-in-One-clause-after c = λ v fits all.
+    let e = c.in-Some.ensures in
+    c.in_ok-push-in-One.ensures.after v fits (c.in-One.ensures.1 v fits (subst (λ x. Sat v x) (sym e.1.0) (all_at v _ _ c.args.c e.0 all)))

@@ -1,73 +1,62 @@
-use Rattle.std.proofs.Common.{◌+◌, get_or, set, sym, refl, subst, arith, length-set}
-use Rattle.std.proofs.lemmas.List.{take-set}
-use Rattle.clauses.specs.Clauses.{Stands, premises}
-use Rattle.clauses.specs.Known.{Fits}
-use Rattle.clauses.proofs.Parts.{all_more}
-use Rattle.clauses.proofs.Ends.{refused_not_out}
-use Rattle.clauses.proofs.Growing.{both}
+use Rattle.std.proofs.Common.{◌≡◌, ◌+◌, Ok, length, sym, refl, ap, ◌∙◌, subst, arith}
+use Rattle.std.proofs.lemmas.Result.{err_from_is_err_and}
+use Rattle.clauses.specs.Clauses.{Sat, All, clause_at, clauses_at}
+use Rattle.clauses.proofs.Growing.{both, one_long, one_front, one_more}
+use Rattle.clauses.proofs.Reading.{read_list, read_both}
 use Rattle.clauses.proofs.Spending.{spent_from}
-use Rattle.clauses.proofs.Trails.{kept_deep}
+use Rattle.clauses.proofs.Trails.{kept_both, allows_same}
 use Rattle.clauses.proofs.lemmas.add_lemma.Goals as goal
 
-pub overflow_add-result : goal.overflow_add-result
-overflow_add-result c = omega (arith, c.if-count-starts.false)
-
-pub returns-in-Yes : goal.returns-in-Yes
-returns-in-Yes c =
-    let numbers = c.args.numbers.now in
-    let starts = c.args.starts.now in
-    let n = c.args.count in
-    let at = c.args.at in
-    let h = c.args.at + 1 + get_or c.args.numbers.now c.args.at 0 in
-    let f = c.follows_by-shown in
-    let stands : Stands c.args.numbers.now c.args.at = c.stands.ensures c.if-not-stands.false in
+pub returns-then-not-branch : goal.returns-then-not-branch
+returns-then-not-branch c =
+    let e = c.in-Some.ensures in
+    let f = c.in_ok-follows_by.ensures in
+    let first = read_list _ _ _ e.same e.read.0 e.read.1.0 e.read.1.1 in
     record {
-      kept = λ before base t. c.settle-step.ensures.kept before base (f.ensures.kept before base t);
-      deep = kept_deep f.new.value f.new.trail c.settle-step.new.value c.settle-step.new.trail c.args.depth c.settle-step.result.depth (omega (arith, c.requires.1, f.auto.trail)) c.settle-step.ensures.kept;
+      kept = f.kept;
+      after = λ v fits all. tt;
+      front = refl;
+      grows = omega arith;
+      room = refl;
+      long = refl;
+      read = read_both _ _ _ first f.read;
+      spent = spent_from _ _ _ _ _ _ _ _ f.spent first.ahead (λ o. cc);
+    }
+
+pub returns-in_err-push : goal.returns-in_err-push
+returns-in_err-push c =
+    let e = c.in-Some.ensures in
+    let f = c.in_ok-follows_by.ensures in
+    let first = read_list _ _ _ e.same e.read.0 e.read.1.0 e.read.1.1 in
+    let p = err_from_is_err_and c.from_residual-in_err-push.result c.from_residual-in_err-push.ensures.1 in
+    rw (p.1, p.2, c.in_err-push.ensures.full.0) (record {
+      kept = f.kept;
+      after = λ v fits all. tt;
+      front = refl;
+      grows = omega arith;
+      room = refl;
+      long = refl;
+      read = read_both _ _ _ first f.read;
+      spent = spent_from _ _ _ _ _ _ _ _ f.spent first.ahead (λ o. cc);
+    })
+
+pub returns : goal.returns
+returns c =
+    let e = c.in-Some.ensures in
+    let f = c.in_ok-follows_by.ensures in
+    let g = c.in_ok-push.ensures in
+    let first = read_list _ _ _ e.same e.read.0 e.read.1.0 e.read.1.1 in
+    record {
+      kept = kept_both _ _ _ f.kept c.settle.ensures.kept;
       after = λ v fits all.
-          let sat = f.ensures.sound c.in-Yes.is v fits all in
-          let now_fits = subst (λ x. Fits v c.args.rep.now x) (sym f.ensures.same) fits in
-          both v c.args.rep.now c.settle-step.new.value (premises numbers (set starts n at) (n + 1)) c.settle-step.result.end (c.settle-step.ensures.after v now_fits sat) (all_more v numbers starts n at c.if-count-starts.false all sat);
-      front = take-set starts n at;
-      grows = omega arith;
-      room = omega (arith, c.if-count-starts.false, length-set starts n at);
-      ahead = omega (arith, f.ensures.ahead);
-      inside = omega (arith, stands, f.ensures.ahead, f.ensures.inside);
-      spent = spent_from c.args.work f.result.left at h f.result.next c.args.most _ _ f.ensures.spent (omega arith) (λ o. absurd (c.settle-step.ensures.free o));
-    }
-
-pub returns-in-No : goal.returns-in-No
-returns-in-No c =
-    let at = c.args.at in
-    let h = c.args.at + 1 + get_or c.args.numbers.now c.args.at 0 in
-    let f = c.follows_by-shown in
-    let stands : Stands c.args.numbers.now c.args.at = c.stands.ensures c.if-not-stands.false in
-    record {
-      kept = f.ensures.kept;
-      deep = omega (arith, c.requires.1, f.auto.trail);
-      after = λ v fits all. tt;
-      front = refl;
-      grows = omega arith;
-      room = c.requires.0;
-      ahead = omega (arith, f.ensures.ahead);
-      inside = omega (arith, stands, f.ensures.ahead, f.ensures.inside);
-      spent = spent_from c.args.work f.result.left at h f.result.next c.args.most _ _ f.ensures.spent (omega arith) (λ o. absurd (refused_not_out o));
-    }
-
-pub returns-in-Exhausted : goal.returns-in-Exhausted
-returns-in-Exhausted c =
-    let at = c.args.at in
-    let h = c.args.at + 1 + get_or c.args.numbers.now c.args.at 0 in
-    let f = c.follows_by-shown in
-    let stands : Stands c.args.numbers.now c.args.at = c.stands.ensures c.if-not-stands.false in
-    record {
-      kept = f.ensures.kept;
-      deep = omega (arith, c.requires.1, f.auto.trail);
-      after = λ v fits all. tt;
-      front = refl;
-      grows = omega arith;
-      room = c.requires.0;
-      ahead = omega (arith, f.ensures.ahead);
-      inside = omega (arith, stands, f.ensures.ahead, f.ensures.inside);
-      spent = spent_from c.args.work f.result.left at h f.result.next c.args.most _ _ f.ensures.spent (omega arith) (λ _. c.in-Exhausted.is);
+          let before = subst (λ n. All v (clauses_at n.now c.as_slice.result.now)) (sym e.same) (subst (λ x. All v (clauses_at c.args.lists.now.numbers.now x)) (sym c.as_slice.ensures) all) in
+          let sat = subst (λ n. Sat v (clause_at n.now c.args.lists.now.at)) e.same (f.sound (ap Ok c.if-not-branch.false) v fits before) in
+          let known = allows_same v c.args.known.now c.follows_by.new.known f.kept.same.rep f.same fits in
+          both v c.settle.new.known _ _ (c.settle.ensures.after v known (subst (λ x. Sat v x) (sym e.read.1.0) sat)) (one_more c.args.starts.now c.push.new.self _ g.ok.0 g.ok.1 v _ all sat);
+      front = one_front c.args.starts.now c.push.new.self _ g.ok.0 g.ok.1;
+      grows = omega (arith, g.ok.1);
+      room = g.same;
+      long = one_long c.args.starts.now c.push.new.self _ g.ok.0 g.ok.1;
+      read = read_both _ _ _ first f.read;
+      spent = spent_from _ _ _ _ _ _ _ _ f.spent first.ahead (λ o. absurd (c.settle.ensures.free o));
     }
