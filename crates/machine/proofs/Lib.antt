@@ -4,9 +4,9 @@ pub mod Rows
 pub mod Ready
 pub mod Values
 pub mod Windows
-pub mod Helds
 pub mod Exprs
 pub mod Small
+pub mod Handing
 pub mod Writes
 pub mod Same
 pub mod Matching

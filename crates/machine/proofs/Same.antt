@@ -1,9 +1,21 @@
--- The loop that compares two rows of bits. Assumes nothing.
-use Rattle.std.proofs.Common.{◌≡◌, ℕ, ◌+◌, ◌<◌, ◌≤◌, true, false, ◌&&◌, eqb, List, [], ◌∷◌, length, get_or, drop, sym, ap, ◌∙◌, arith}
+-- Two rows of bits that are compared. Assumes nothing.
+use Rattle.std.proofs.Common.{◌≡◌, ℕ, ◌+◌, ◌<◌, ◌≤◌, Bool, true, false, ◌&&◌, eqb, List, [], ◌∷◌, length, get_or, drop, Decides, sym, refl, ap, ◌∙◌, arith, rules}
+use Rattle.std.proofs.lemmas.Slice.Eq.{compares_Decides}
 use Rattle.std.proofs.lemmas.List.{drop_more, drop_all}
 use Rattle.std.proofs.lemmas.Bool.{eq-eqb, ne_eqb}
 use Rattle.model.specs.Parser.{same_bits}
 
+pub same_decides : (xs ys : List ℕ) → Decides (same_bits xs ys) (xs ≡ ys)
+same_decides = compares_Decides same_bits (search rules)
+
+pub not_same : (xs ys : List ℕ) → (xs ≡ ys → ⊥) → same_bits xs ys ≡ false
+not_same xs ys ne = go (same_bits xs ys) refl
+  where
+    go : (b : Bool) → same_bits xs ys ≡ b → same_bits xs ys ≡ false
+    go false e = e
+    go true e = absurd (ne ((same_decides xs ys).0 e))
+
+-- the loop that does it
 module _ (v bs : List ℕ) (i : ℕ) (long : length v ≡ length bs) (so_far : same_bits (drop i v) (drop i bs) ≡ same_bits v bs) where
   one : i < length bs → same_bits (drop i v) (drop i bs) ≡ (eqb (get_or v i 0) (get_or bs i 0) && same_bits (drop (i + 1) v) (drop (i + 1) bs))
   one l =

@@ -1,120 +1,101 @@
 // The value of an expression, held to bits or written into a store.
-ghost use Rattle.std.specs.Prelude.{◌≡◌, ℕ, ◌+◌, ◌≤◌, true, length};
+ghost use Rattle.std.specs.Prelude.{◌≡◌, ◌≢◌, ◌+◌, ◌≤◌, ◌++◌, length, take};
 ghost use Rattle.model.specs.Parser.{value, same_bits};
-ghost use Rattle.model.specs.Refusal.{expr_width, named_expr, sized_expr};
+ghost use Rattle.model.specs.Refusal.{expr_width};
 ghost use Rattle.syntax.specs.View.{expr_of};
-ghost use Rattle.rows.specs.Row.{bit_in};
+ghost use Rattle.machine.specs.Row.{bit_in};
+ghost use Rattle.machine.specs.Sound.{Proper};
 ghost use Rattle.machine.specs.View.{contents, sizes_in};
-ghost use Rattle.machine.specs.Window.{Held, Filled};
+ghost use Rattle.machine.specs.Window.{Wrote};
+ghost use Rattle.machine.specs.Sinks.{held_laws, filling_laws};
 
 use crate::machine::Machine;
+use crate::sink::Sink;
 use crate::store::Store;
+use crate::want::Want;
 use syntax::Expr;
 
-// An expression may have thousands of parts, so it is taken as a stream of bits: the first `skip` are
-// passed over, those that follow are used, and each part is come to once, with no widths worked out
-// beforehand. In each part `from` bits are passed over and the next `n` used.
+// the bits that a value is still held to
+#[derive(Clone, Copy)]
+pub(crate) struct Held<'a> {
+    store: &'a Store,
+    bits: &'a [u8],
+}
+
+impl<'a> Sink for Held<'a> {
+    ghost source = { λ s. bit_in s.store.now.words };
+
+    ghost places = { λ s. 4096 };
+
+    ghost Fits = { λ s n. n ≤ length s.bits.now };
+
+    ghost Took = { λ s t xs. (t.store.now ≡ s.store.now) × (s.bits.now ≡ xs ++ t.bits.now) };
+
+    ghost Refuses = { λ s xs. take (length xs) s.bits.now ≢ xs };
+
+    fn header(&mut self, start: usize, n: usize) -> Option<()> {
+        let (bits, rest) = self.bits.split_at(n);
+        if !self.store.holds(start, bits) {
+            return None;
+        }
+        self.bits = rest;
+        Some(())
+    }
+
+    fn constant(&mut self, bits: &[u8]) -> Option<()> {
+        let (first, rest) = self.bits.split_at(bits.len());
+        if first != bits {
+            return None;
+        }
+        self.bits = rest;
+        Some(())
+    }
+
+    ghost laws = { held_laws };
+}
+
+// a store that a value is written into, from bit `at` on; headers are read as they were before
+#[derive(Drop)]
+pub(crate) struct Filling<'a> {
+    pub(crate) before: &'a Store,
+    pub(crate) store: &'a mut Store,
+    pub(crate) at: usize,
+}
+
+impl<'a> Sink for Filling<'a> {
+    ghost source = { λ s. bit_in s.before.now.words };
+
+    ghost places = { λ s. 4096 };
+
+    ghost Fits = { λ s n. s.at + n ≤ 4096 };
+
+    ghost Took = { λ s t xs. (t.before.now ≡ s.before.now) × (t.store.ghost_name ≡ s.store.ghost_name) × Wrote (bit_in s.store.now.words) (bit_in t.store.now.words) s.at t.at xs };
+
+    ghost Refuses = { λ s xs. ⊥ };
+
+    fn header(&mut self, start: usize, n: usize) -> Option<()> {
+        self.store.copy(self.at, self.before, start, n);
+        self.at += n;
+        Some(())
+    }
+
+    fn constant(&mut self, bits: &[u8]) -> Option<()> {
+        self.store.write(self.at, bits);
+        self.at += bits.len();
+        Some(())
+    }
+
+    ghost laws = { filling_laws };
+}
+
 impl Machine {
     // does an expression have exactly these bits
     pub(crate) fn equals(&self, e: &Expr, store: &Store, bits: &[u8]) -> bool
-        requires named { named_expr (sizes_in self.now) (expr_of e.now) ≡ true }
-        requires sized { sized_expr (sizes_in self.now) (expr_of e.now) ≡ true }
+        requires proper { Proper (sizes_in self.now) (expr_of e.now) }
         requires wide { length bits.now ≡ expr_width (sizes_in self.now) (expr_of e.now) }
         ensures { result ≡ same_bits (value (contents self.now store.now) (expr_of e.now)) bits.now }
     {
-        self.compare_from(e, store, 0, bits).is_some()
-    }
-
-    // Holds what an expression has after its first bits to the front of `bits`. None where they differ,
-    // else how many bits are still to be skipped after it, and to how many of `bits` it was held.
-    fn compare_from(
-        &self,
-        e: &Expr,
-        store: &Store,
-        skip: usize,
-        bits: &[u8],
-    ) -> Option<(usize, usize)>
-        requires named { named_expr (sizes_in self.now) (expr_of e.now) ≡ true }
-        requires sized { sized_expr (sizes_in self.now) (expr_of e.now) ≡ true }
-        ensures { Held (value (contents self.now store.now) (expr_of e.now)) skip bits.now result }
-    {
-        match e {
-            Expr::Header(h) => {
-                let size = self.size(*h);
-                let from = skip.min(size);
-                let n = bits.len().min(size - from);
-                if !store.holds(self.start(*h) + from, &bits[..n]) {
-                    return None;
-                }
-                Some((skip - from, n))
-            }
-            Expr::Bits(constant) => {
-                let size = constant.len();
-                let from = skip.min(size);
-                let n = bits.len().min(size - from);
-                if constant[from..from + n] != bits[..n] {
-                    return None;
-                }
-                Some((skip - from, n))
-            }
-            Expr::Slice(inner, lo, hi) => {
-                let size = *hi as usize + 1 - *lo as usize;
-                let from = skip.min(size);
-                let n = bits.len().min(size - from);
-                self.compare_from(inner, store, *lo as usize + from, &bits[..n])?;
-                Some((skip - from, n))
-            }
-            Expr::Join(left, right) => {
-                let (skip, n) = self.compare_from(left, store, skip, bits)?;
-                let (skip, m) = self.compare_from(right, store, skip, &bits[n..])?;
-                Some((skip, n + m))
-            }
-        }
-    }
-
-    // Writes what an expression has after its first bits into `store` from bit `at` on, `most` bits at
-    // most. It reads `before`. Hands back how many bits are still to be skipped, and how many it wrote.
-    pub(crate) fn fill_from(
-        &self,
-        e: &Expr,
-        before: &Store,
-        skip: usize,
-        most: usize,
-        store: &mut Store,
-        at: usize,
-    ) -> (usize, usize)
-        requires named { named_expr (sizes_in self.now) (expr_of e.now) ≡ true }
-        requires sized { sized_expr (sizes_in self.now) (expr_of e.now) ≡ true }
-        requires room { at + most ≤ 4096 }
-        ensures { Filled (bit_in store.old.words) (bit_in store.new.words) (value (contents self.now before.now) (expr_of e.now)) skip most at result.0 result.1 }
-    {
-        match e {
-            Expr::Header(h) => {
-                let size = self.size(*h);
-                let from = skip.min(size);
-                let n = most.min(size - from);
-                store.copy(at, before, self.start(*h) + from, n);
-                (skip - from, n)
-            }
-            Expr::Bits(constant) => {
-                let size = constant.len();
-                let from = skip.min(size);
-                let n = most.min(size - from);
-                store.write(at, &constant[from..from + n]);
-                (skip - from, n)
-            }
-            Expr::Slice(inner, lo, hi) => {
-                let size = *hi as usize + 1 - *lo as usize;
-                let from = skip.min(size);
-                let n = most.min(size - from);
-                let _ = self.fill_from(inner, before, *lo as usize + from, n, store, at);
-                (skip - from, n)
-            }
-            Expr::Join(left, right) => {
-                let (skip, n) = self.fill_from(left, before, skip, most, store, at);
-                let (skip, m) = self.fill_from(right, before, skip, most - n, store, at + n);
-                (skip, n + m)
-            }
-        }
+        let mut held = Held { store, bits };
+        self.hand(e, Want::first(bits.len()), &mut held).is_some()
     }
 }

@@ -2,11 +2,16 @@
 #![tactic(auto)]
 
 mod eval;
+mod hand;
 mod machine;
 mod measure;
 mod run;
+mod sink;
 mod store;
 mod walk;
+mod want;
 
 pub use machine::Machine;
+pub use sink::Sink;
 pub use store::Store;
+pub use want::Want;

@@ -1,13 +1,15 @@
 // One walk through a state: its ops, then where it leads.
 ghost use Rattle.std.specs.Prelude.{◌≡◌, ℕ, ◌<◌, ◌≤◌, true, length, take, slice_index, slice_set};
 ghost use Rattle.model.specs.Parser.{value, run_ops, ops_width};
-ghost use Rattle.model.specs.Refusal.{are_bits, expr_width, named_expr, sized_expr};
+ghost use Rattle.model.specs.Refusal.{are_bits, expr_width};
 ghost use Rattle.syntax.specs.View.{expr_of, state_of, target_of};
-ghost use Rattle.machine.specs.Sound.{Sound};
+ghost use Rattle.machine.specs.Sound.{Proper, Sound};
 ghost use Rattle.machine.specs.View.{contents, selected, sizes_in, state_count, state_in, width_in};
 
+use crate::eval::Filling;
 use crate::machine::Machine;
 use crate::store::Store;
+use crate::want::Want;
 use syntax::{Expr, Op, Pattern, State, Target};
 
 impl Machine {
@@ -64,13 +66,17 @@ impl Machine {
     // A header gets the value of an expression, which may read that header: so it reads a copy.
     fn assign(&self, h: u16, store: &mut Store, e: &Expr)
         requires known { h < length (sizes_in self.now) }
-        requires named { named_expr (sizes_in self.now) (expr_of e.now) ≡ true }
-        requires sized { sized_expr (sizes_in self.now) (expr_of e.now) ≡ true }
+        requires proper { Proper (sizes_in self.now) (expr_of e.now) }
         requires wide { expr_width (sizes_in self.now) (expr_of e.now) ≡ slice_index (sizes_in self.now) h }
         ensures { contents self.now store.new ≡ slice_set (contents self.now store.old) h (value (contents self.now store.old) (expr_of e.now)) }
     {
         let before = *store;
-        let _ = self.fill_from(e, &before, 0, self.size(h), store, self.start(h));
+        let mut filling = Filling {
+            before: &before,
+            store,
+            at: self.start(h),
+        };
+        let _ = self.hand(e, Want::first(self.size(h)), &mut filling);
     }
 
     // where the first case leads of which each pattern matches, else where `otherwise` does

@@ -22,7 +22,8 @@ use Rattle.symbols.specs.declared.point.Leapt.TheVariants.{Waits, Walked, Ended}
 use Rattle.symbols.proofs.Natural.{ops_map}
 use Rattle.machine.proofs.Rows.{length_part, part_at, same_headers}
 use Rattle.symbols.proofs.Placing.{map-part, map-headers, take_part}
-use Rattle.machine.proofs.Writes.{write_join, written_part}
+use Rattle.machine.specs.Sinks.{write_join}
+use Rattle.machine.proofs.Writes.{written_part}
 use Rattle.symbols.proofs.Bounds.{Stays, StoresStay, symbols_stay, append_stays, stays_at, positions_stay, stays_row, ops_stay}
 
 -- a row of fresh symbols stands for what is at their positions

@@ -1,7 +1,7 @@
 -- What is written into a list, which holds a row. Assumes nothing.
 use Rattle.std.proofs.Common.{◌≡◌, ℕ, ◌+◌, ◌<◌, ◌≤◌, List, length, get_or, take, set, sym, ◌∙◌, arith}
 use Rattle.std.proofs.lemmas.List.{get_or-set_same, get_or-set_other}
-use Rattle.machine.specs.Window.{Written, Filled}
+use Rattle.machine.specs.Window.{Written}
 use Rattle.machine.proofs.Rows.{same_part}
 use Rattle.machine.proofs.Writes.{write_more}
 use Rattle.symbols.specs.View.{in_row}
@@ -12,6 +12,6 @@ pub item_written : {f : ℕ → ℕ} (ys : List ℕ) {xs : List ℕ} {k i y : �
 item_written {f} ys {xs} {k} {i} {y} w l e = write_more w (get_or-set_same ys (k + i) y 0 l ∙ e) (λ j ne. get_or-set_other ys (k + i) j y 0 ne)
 
 -- what stands in front of it stays
-pub filled_front : (xs ys : List ℕ) (i : ℕ) {v : List ℕ} {k most at left n : ℕ} → i ≤ length xs → length ys ≡ length xs → i ≤ at → Filled (in_row xs) (in_row ys) v k most at left n → take i ys ≡ take i xs
-filled_front xs ys i within long l filled =
-    take_part ys i (omega arith) ∙ same_part (in_row ys) (in_row xs) 0 0 i (λ j h. filled.wrote.below (0 + j) (omega arith)) ∙ sym (take_part xs i within)
+pub front_stays : (xs ys : List ℕ) (i : ℕ) {v : List ℕ} {at n : ℕ} → i ≤ length xs → length ys ≡ length xs → i ≤ at → Written (in_row xs) (in_row ys) v at n → take i ys ≡ take i xs
+front_stays xs ys i within long l written =
+    take_part ys i (omega arith) ∙ same_part (in_row ys) (in_row xs) 0 0 i (λ j h. written.below (0 + j) (omega arith)) ∙ sym (take_part xs i within)

@@ -1,4 +1,5 @@
 pub mod Symbol
 pub mod Choice
 pub mod View
+pub mod Filling
 pub mod Side

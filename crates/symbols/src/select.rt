@@ -3,13 +3,14 @@ ghost use Rattle.std.specs.Prelude.{◌≡◌, ℕ, ◌+◌, ◌-◌, ◌*◌, �
 ghost use Rattle.model.specs.Parser.{matches, value};
 ghost use Rattle.model.specs.Refusal.{every, expr_width, named_expr, sized_expr, sized_patterns};
 ghost use Rattle.syntax.specs.View.{expr_of, pattern_of};
+ghost use Rattle.machine.specs.Sound.{Proper};
 ghost use Rattle.machine.specs.View.{sizes_in, state_count, state_in};
 ghost use Rattle.symbols.specs.Choice.{case_at};
 ghost use Rattle.machine.specs.Row.{part};
 ghost use Rattle.symbols.specs.View.{in_row, header_bits, symbols_in};
 ghost use Rattle.symbols.specs.Symbol.{Below, are_pairs, condition_of, holds, paired, store_sense};
 
-use crate::eval::fill_from;
+use crate::eval::fill;
 use machine::Machine;
 use syntax::{Expr, Pattern};
 
@@ -87,8 +88,7 @@ fn write_pairs(
     out: &mut [u64],
     at: usize,
 ) -> usize
-    requires named { named_expr (sizes_in machine.now) (expr_of key.now) ≡ true }
-    requires sized { sized_expr (sizes_in machine.now) (expr_of key.now) ≡ true }
+    requires proper { Proper (sizes_in machine.now) (expr_of key.now) }
     requires wide { length bits.now ≡ expr_width (sizes_in machine.now) (expr_of key.now) }
     requires heads { header_bits machine.now ≤ length heads.now }
     requires room { at + 2 * length bits.now ≤ length out.old }
@@ -96,7 +96,7 @@ fn write_pairs(
     ensures wrote { take result out.new ≡ take at out.old ++ paired (value (symbols_in machine.now heads.now) (expr_of key.now)) bits.now }
 {
     let n = bits.len();
-    let _ = fill_from(machine, key, heads, 0, n, out, at + n);
+    fill(machine, key, heads, n, out, at + n);
     pair_up(bits, out, at);
     at + 2 * n
 }

@@ -1,13 +1,13 @@
 // What the ops of a state do to rows of symbols.
-ghost use Rattle.std.specs.Prelude.{◌≡◌, ℕ, ◌<◌, ◌≤◌, true, length, take, slice_index, slice_set};
+ghost use Rattle.std.specs.Prelude.{◌≡◌, ℕ, ◌<◌, ◌≤◌, length, take, slice_index, slice_set};
 ghost use Rattle.model.specs.Parser.{ops_width, run_ops, value};
-ghost use Rattle.model.specs.Refusal.{expr_width, named_expr, sized_expr};
+ghost use Rattle.model.specs.Refusal.{expr_width};
 ghost use Rattle.syntax.specs.View.{expr_of, state_of};
-ghost use Rattle.machine.specs.Sound.{Sound};
+ghost use Rattle.machine.specs.Sound.{Proper, Sound};
 ghost use Rattle.machine.specs.View.{sizes_in, state_count};
 ghost use Rattle.symbols.specs.View.{header_bits, symbols_in};
 
-use crate::eval::fill_from;
+use crate::eval::fill;
 use crate::row;
 use machine::Machine;
 use syntax::{Expr, Op, State};
@@ -51,13 +51,12 @@ fn put(machine: &Machine, h: u16, heads: &mut [u64], symbols: &[u64])
 // A header gets the symbols of an expression, which may read that header: so they are written aside first.
 fn assign(machine: &Machine, h: u16, heads: &mut [u64], e: &Expr, scratch: &mut [u64])
     requires known { h < length (sizes_in machine.now) }
-    requires named { named_expr (sizes_in machine.now) (expr_of e.now) ≡ true }
-    requires sized { sized_expr (sizes_in machine.now) (expr_of e.now) ≡ true }
+    requires proper { Proper (sizes_in machine.now) (expr_of e.now) }
     requires wide { expr_width (sizes_in machine.now) (expr_of e.now) ≡ slice_index (sizes_in machine.now) h }
     requires there { header_bits machine.now ≤ length heads.old }
     requires aside { header_bits machine.now ≤ length scratch.old }
     ensures { symbols_in machine.now heads.new ≡ slice_set (symbols_in machine.now heads.old) h (value (symbols_in machine.now heads.old) (expr_of e.now)) }
 {
-    let _ = fill_from(machine, e, heads, 0, machine.size(h), scratch, 0);
+    fill(machine, e, heads, machine.size(h), scratch, 0);
     put(machine, h, heads, scratch);
 }

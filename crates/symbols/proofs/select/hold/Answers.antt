@@ -17,8 +17,10 @@ write_pairs-next-requires c =
     let ns : List ℕ = sizes_in c.args.machine.now in
     let l = one_more _ _ _ _ c.args.keys.now c.args.patterns.now c.loop-i.i c.loop-i.invariant c.loop-i-test.true in
     record {
-      named = every_read (named_expr ns) expr_of c.args.keys.now c.requires.named c.loop-i.i l c.index-keys-i.is;
-      sized = every_read (sized_expr ns) expr_of c.args.keys.now c.requires.sized c.loop-i.i l c.index-keys-i.is;
+      proper = record {
+        named = every_read (named_expr ns) expr_of c.args.keys.now c.requires.named c.loop-i.i l c.index-keys-i.is;
+        sized = every_read (sized_expr ns) expr_of c.args.keys.now c.requires.sized c.loop-i.i l c.index-keys-i.is;
+      };
       wide = ap length c.deref.ensures.value
           ∙ as_wide _ _ _ _ c.loop-i.invariant (drop_read _ _ _ l c.index-keys-i.is) (drop_read _ _ _ c.loop-i-test.true c.index-patterns-i.is) c.in-Exactly.is;
       heads = c.requires.heads;

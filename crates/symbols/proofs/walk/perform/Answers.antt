@@ -38,8 +38,7 @@ assign-requires c =
     let f = assign_fits ns c.deref-op-items.result.now named sized c.loop-op-test.true c.op-item.is c.in-Assign.is in
     record {
       known = f.known;
-      named = f.named;
-      sized = f.sized;
+      proper = record { named = f.named; sized = f.sized };
       wide = f.wide;
       there = omega (arith, c.requires.there, c.loop-op.auto.heads);
       aside = omega (arith, c.requires.aside, c.loop-op.auto.scratch);

@@ -36,7 +36,7 @@ assign-requires c =
     let named = ap (λ os. every (named_op ns) (map op_of os)) c.deref-op-items.ensures.value ∙ c.requires.sound.named_ops in
     let sized = ap (λ os. every (sized_op ns) (map op_of os)) c.deref-op-items.ensures.value ∙ c.requires.sound.sized_ops in
     let f = assign_fits ns c.deref-op-items.result.now named sized c.loop-op-test.true c.op-item.is c.in-Assign.is in
-    record { known = f.known; named = f.named; sized = f.sized; wide = f.wide }
+    record { known = f.known; proper = record { named = f.named; sized = f.sized }; wide = f.wide }
 
 pub loop-op-preserved : goal.loop-op-preserved
 loop-op-preserved c =

@@ -31,8 +31,10 @@ equals-requires c =
     let keys = vec_items c.args.state.now.keys in
     let l = one_more _ _ keys c.deref-pattern-items.result.now c.loop-i.i c.loop-i.invariant c.loop-i-test.true in
     record {
-      named = every_read (named_expr ns) expr_of keys c.requires.named_keys c.loop-i.i l c.index.ensures;
-      sized = every_read (sized_expr ns) expr_of keys c.requires.sized_keys c.loop-i.i l c.index.ensures;
+      proper = record {
+        named = every_read (named_expr ns) expr_of keys c.requires.named_keys c.loop-i.i l c.index.ensures;
+        sized = every_read (sized_expr ns) expr_of keys c.requires.sized_keys c.loop-i.i l c.index.ensures;
+      };
       wide = ap length c.deref.ensures.value
           ∙ as_wide _ _ c.loop-i.invariant (drop_read _ _ _ l c.index.ensures) (drop_read _ _ _ c.loop-i-test.true c.pattern-item.is) c.in-Exactly.is;
     }
