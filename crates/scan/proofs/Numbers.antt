@@ -1,11 +1,10 @@
 -- Numbers from their bytes.
-use Rattle.std.proofs.Common.{◌≡◌, ℕ, ◌+◌, ◌-◌, ◌*◌, ◌^◌, ◌<◌, ◌≤◌, cond, List, [], length, get_or, take, drop, sym, refl, ap, ◌∙◌, pow-suc, add-one, arith, lit<}
+use Rattle.std.proofs.Common.{◌≡◌, ℕ, ◌+◌, ◌-◌, ◌*◌, ◌^◌, ◌<◌, ◌≤◌, cond, List, [], length, get_or, take, drop, sym, ap, ◌∙◌, pow-suc, add-one, arith, lit<}
 use native.Mathlib.Nat.{pow-le-pow_right}
-use Rattle.std.proofs.lemmas.List.{drop-drop, drop_all, length-drop, at_drop_more, at_drop_all}
+use Rattle.std.proofs.lemmas.List.{drop-drop, drop_all, length-drop, take_all, at_drop_more, at_drop_all}
 use Rattle.std.proofs.lemmas.Bool.{le-leb, lt-leb}
-use Rattle.format.specs.Read.{Read, got, failed, bind, read_bytes, big_endian}
-use Rattle.scan.specs.Reads.{Took, Ceased, Is}
-use Rattle.scan.proofs.Chain.{then_took}
+use Rattle.format.specs.Read.{got, failed, read_bytes, big_endian}
+use Rattle.scan.specs.Reads.{Place, left, Ceased}
 
 -- one more digit
 pub more_digits : (ds : List ℕ) (n i : ℕ) → i < length ds → big_endian n (drop i ds) ≡ big_endian 0 ds → big_endian (n * 256 + get_or ds i 0) (drop (i + 1) ds) ≡ big_endian 0 ds
@@ -21,36 +20,18 @@ pub number_small : (n i w : ℕ) → i ≤ w → w ≤ 8 → n < 256 ^ i → n <
 number_small n i w l k s = let q : i ≤ 8 = omega arith in let p : 256 ^ i ≤ 256 ^ 8 = pow-le-pow_right (lit< tt) q in omega arith
 
 -- so many bytes are there, or not
-pub took_bytes : (bytes : List ℕ) (at n : ℕ) → at ≤ length bytes → n ≤ length bytes - at → Took (read_bytes n (drop at bytes)) (Is (λ b. b)) bytes (take n (drop at bytes)) (at + n)
-took_bytes bytes at n l k =
-    record {
-      within = omega arith;
-      value = take n (drop at bytes);
-      reads = ap (λ b. cond b (got (take n (drop at bytes)) (drop n (drop at bytes))) (failed [])) (le-leb n (length (drop at bytes)) (omega (arith, length-drop at bytes)))
-          ∙ ap (got (take n (drop at bytes))) (drop-drop n at bytes);
-      meant = refl;
-    }
+module _ (p : Place) (n : ℕ) where
+  pub enough : n ≤ length (left p) → read_bytes n (left p) ≡ got (take n (left p)) (drop (p.at + n) p.bytes)
+  enough l =
+      ap (λ b. cond b (got (take n (left p)) (drop n (left p))) (failed [])) (le-leb n (length (left p)) l) ∙ ap (got (take n (left p))) (drop-drop n p.at p.bytes)
 
-pub too_few : (bytes : List ℕ) (at n : ℕ) → length bytes - at < n → Ceased (read_bytes n (drop at bytes)) bytes (length bytes)
-too_few bytes at n k =
-    record {
-      within = omega arith;
-      reads = ap (λ b. cond b (got (take n (drop at bytes)) (drop n (drop at bytes))) (failed [])) (lt-leb n (length (drop at bytes)) (omega (arith, length-drop at bytes)))
-          ∙ ap failed (sym (drop_all (length bytes) bytes (omega arith)));
-    }
+  pub too_few : length (left p) < n → Ceased (read_bytes n (left p)) p.bytes (length p.bytes)
+  too_few l =
+      record {
+        within = omega arith;
+        reads = ap (λ b. cond b (got (take n (left p)) (drop n (left p))) (failed [])) (lt-leb n (length (left p)) l) ∙ ap failed (sym (drop_all (length p.bytes) p.bytes (omega arith)));
+      }
 
-pub part : (bytes : List ℕ) (at n : ℕ) → take (at + n - at) (drop at bytes) ≡ take n (drop at bytes)
-part bytes at n = let e : at + n - at ≡ n = omega arith in ap (λ k. take k (drop at bytes)) e
-
--- a row, after how many bits it has
-pub row_found : (bytes : List ℕ) {r : Read ℕ} (start n : ℕ) (t : Took r (Is (λ m. m)) bytes n start) → n ≤ length bytes - start
-    → Took (bind r (λ m rest. read_bytes m rest)) (Is (λ s. take (start + n - s) (drop s bytes))) bytes start (start + n)
-row_found bytes {r} start n t l =
-    let u = took_bytes bytes start n t.within l in
-    then_took (λ m rest. read_bytes m rest) t
-    (record {
-      within = u.within;
-      value = u.value;
-      reads = ap (λ m. read_bytes m (drop start bytes)) (sym t.meant) ∙ u.reads;
-      meant = part bytes start n ∙ u.meant;
-    })
+-- what `&bs[at..]` is
+pub tail : (bs : List ℕ) (at : ℕ) → take (length bs - at) (drop at bs) ≡ drop at bs
+tail bs at = take_all (length bs - at) (drop at bs) (omega (arith, length-drop at bs))

@@ -1,10 +1,10 @@
 -- An expression goes over as its head and then its parts.
-use Rattle.std.proofs.Common.{◌≡◌, ℕ, zero, suc, ◌+◌, ◌≤◌, List, ◌∷◌, length, get_or, drop, sym, refl, ap, ◌∙◌, suc-add, zero-add, arith}
+use Rattle.std.proofs.Common.{◌≡◌, ℕ, zero, suc, ◌+◌, ◌≤◌, List, ◌∷◌, length, get_or, drop, sym, refl, ap, ◌∙◌, suc-add, zero-add, subst, arith}
 use Rattle.model.specs.Parser.{Expr, header, bits, slice, join}
 use Rattle.format.specs.Read.{Read, got, failed, bind, read_number, read_row, read_many}
 use Rattle.format.specs.Format.{read_expr, expr_choices}
 use Rattle.format.proofs.Exprs.{read_expr-step}
-use Rattle.scan.specs.Reads.{Took, Failed, ceased, no_memory, Is}
+use Rattle.scan.specs.Reads.{Place, left, Took, Stopped, Failed, ceased, no_memory, Is}
 use Rattle.scan.specs.Skim.{read_head, head_choices}
 use Rattle.scan.specs.declared.fault.Fault.{Fault}
 
@@ -104,16 +104,17 @@ by_head bs = ap past (read_expr-step bs) ∙ go (read_number 1 bs)
     go (got tag r) = tagged tag r
     go (failed r) = refl
 
--- the loop: the whole is over where one more than are owed are over
-pub record Skimming (whole : Read Expr) (bytes : List ℕ) (next owed : ℕ) : Type 0 where
-  pub within : next ≤ length bytes
-  pub few : owed ≤ next
-  pub same : past whole ≡ rest_of (suc owed) (drop next bytes)
+-- so many things are over, whatever they were, as one is
+pub record Skimming (whole : Read Expr) (old now : Place) (owed : ℕ) : Type 0 where
+  pub within : now.at ≤ length now.bytes
+  pub stays : now.bytes ≡ old.bytes
+  pub few : owed ≤ now.at + 1
+  pub same : past whole ≡ rest_of owed (left now)
 
-pub started : (bytes : List ℕ) (at : ℕ) → at ≤ length bytes → Skimming (read_expr (drop at bytes)) bytes at 0
-started bytes at l = record { within = l; few = Prim.Native.Nat.zero-le; same = sym (one (drop at bytes)) }
+pub started : (old : Place) → old.at ≤ length old.bytes → Skimming (read_expr (left old)) old old 1
+started old l = record { within = l; stays = refl; few = omega arith; same = sym (one (left old)) }
 
--- by the head at `next`
+-- by the head of the next
 step : (n : ℕ) (bs : List ℕ) → rest_of (suc n) bs ≡ bind (read_head bs) (λ k r. rest_of (k + n) r)
 step n bs =
     many_one n bs ∙ ap (λ s. bind s (λ _ r. rest_of n r)) (by_head bs) ∙ bind_assoc (read_head bs) (λ k r. rest_of k r) (λ _ r. rest_of n r)
@@ -129,26 +130,27 @@ unfolding past
 past_failed (got x q) r e = absurd (let z : ◌≡◌ {A = ℕ} 0 1 = cc in omega arith)
 past_failed (failed q) r e = let z : q ≡ r = cc in ap failed z
 
-module _ {whole : Read Expr} {bytes : List ℕ} {next owed : ℕ} (so_far : Skimming whole bytes next owed) where
-  module _ {k after : ℕ} (t : Took (read_head (drop next bytes)) (Is (λ n. n)) bytes k after) where
-    after_head : past whole ≡ rest_of (k + owed) (drop after bytes)
-    after_head =
-        so_far.same ∙ step owed (drop next bytes) ∙ ap (λ s. bind s (λ n r. rest_of (n + owed) r)) t.reads ∙ ap (λ n. rest_of (n + owed) (drop after bytes)) (sym t.meant)
+module _ {whole : Read Expr} {old now : Place} {owed : ℕ} (so_far : Skimming whole old now owed) where
+  by_next : (n : ℕ) → owed ≡ suc n → past whole ≡ bind (read_head (left now)) (λ k r. rest_of (k + n) r)
+  by_next n e = so_far.same ∙ ap (λ m. rest_of m (left now)) e ∙ step n (left now)
 
-    pub goes_on : {owed' : ℕ} → k + owed ≡ suc owed' → owed' ≤ after → Skimming whole bytes after owed'
-    goes_on e l = record { within = t.within; few = l; same = after_head ∙ ap (λ n. rest_of n (drop after bytes)) e }
+  pub goes_on : {k : ℕ} {new : Place} (n : ℕ) → owed ≡ suc n → Took (read_head (left now)) (Is (λ n. n)) now k new → (owed' : ℕ) → k + n ≡ owed' → owed' ≤ new.at + 1 → Skimming whole old new owed'
+  goes_on {k} {new} n e t owed' more l =
+      record {
+        within = t.within;
+        stays = t.same ∙ so_far.stays;
+        few = l;
+        same = by_next n e ∙ ap (λ s. bind s (λ m r. rest_of (m + n) r)) t.reads ∙ ap (λ m. rest_of (m + n) (left new)) (sym t.meant) ∙ ap (λ m. rest_of m (left new)) more;
+      }
 
-    pub over : k + owed ≡ 0 → Took whole (λ _ _. Unit {0}) bytes after after
-    unfolding past
-    over e =
-        let p = past_got whole (drop after bytes) (after_head ∙ ap (λ n. rest_of n (drop after bytes)) e) in
-        record { within = t.within; value = p.0; reads = p.1; meant = tt }
-
-  pub breaks : {e : Fault} → Failed (read_head (drop next bytes)) bytes e → Failed whole bytes e
+  pub over : owed ≡ 0 → Took whole (λ (_ : Unit {0}) _. Unit {0}) old tt now
   unfolding past
-  breaks (ceased {k} u) =
-      ceased (record {
-        within = u.within;
-        reads = past_failed whole (drop k bytes) (so_far.same ∙ step owed (drop next bytes) ∙ ap (λ s. bind s (λ n r. rest_of (n + owed) r)) u.reads);
-      })
-  breaks no_memory = no_memory
+  over e = let p = past_got whole (left now) (so_far.same ∙ ap (λ m. rest_of m (left now)) e) in record { within = so_far.within; same = so_far.stays; value = p.0; reads = p.1; meant = tt }
+
+  breaks_at : {e : Fault} (n : ℕ) → owed ≡ suc n → Failed (read_head (left now)) old.bytes e → Failed whole old.bytes e
+  unfolding past
+  breaks_at n is (ceased {k} v) = ceased (record { within = v.within; reads = past_failed whole (drop k old.bytes) (by_next n is ∙ ap (λ s. bind s (λ m r. rest_of (m + n) r)) v.reads) })
+  breaks_at n is no_memory = no_memory
+
+  pub breaks : {e : Fault} {new : Place} (n : ℕ) → owed ≡ suc n → Stopped (read_head (left now)) now new e → Stopped whole old new e
+  breaks {e} n is u = record { same = u.same ∙ so_far.stays; why = breaks_at n is (subst (λ b. Failed (read_head (left now)) b e) so_far.stays u.why) }

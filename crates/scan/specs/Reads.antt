@@ -4,11 +4,21 @@ use Rattle.format.specs.Read.{Read, got, failed}
 use Rattle.scan.specs.declared.fault.Fault.{Fault}
 use Rattle.scan.specs.declared.fault.Fault.TheVariants.{Memory, Garbled}
 
--- the definition reads a value, what the code has means that value, and the next thing stands at `next`
-pub record Took {X Y : Type 0} (r : Read Y) (means : X → Y → Type 0) (bytes : List ℕ) (x : X) (next : ℕ) : Type 0 where
-  pub within : next ≤ length bytes
+-- a reader: its bytes, and the offset of what comes next in them
+pub record Place : Type 0 where
+  pub bytes : List ℕ
+  pub at : ℕ
+
+-- the bytes that are left to read
+abbrev pub left : Place → List ℕ
+left p = drop p.at p.bytes
+
+-- the definition reads a value, what the code has means that value, and the next thing stands where the reader now is, in the same bytes
+pub record Took {X Y : Type 0} (r : Read Y) (means : X → Y → Type 0) (old : Place) (x : X) (new : Place) : Type 0 where
+  pub within : new.at ≤ length new.bytes
+  pub same : new.bytes ≡ old.bytes
   pub value : Y
-  pub reads : r ≡ got value (drop next bytes)
+  pub reads : r ≡ got value (left new)
   pub meant : means x value
 
 -- the definition reads nothing: the bytes cease to be one at `k`
@@ -21,9 +31,14 @@ pub data Failed {Y : Type 0} (r : Read Y) (bytes : List ℕ) : Fault → Type 0 
   ceased : {k : ℕ} → Ceased r bytes k → Failed r bytes (Garbled k)
   no_memory : Failed r bytes Memory
 
--- what a reader of the code returns: a value and where the next thing stands, or why there is none
-abbrev pub Reads : {X Y : Type 0} → Read Y → (X → Y → Type 0) → List ℕ → Result (X × ℕ) Fault → Type 0
-Reads r means bytes res = MatchResult res (λ p. Took r means bytes p.0 p.1) (Failed r bytes)
+-- nothing was read, and the reader still has its bytes
+pub record Stopped {Y : Type 0} (r : Read Y) (old new : Place) (e : Fault) : Type 0 where
+  pub same : new.bytes ≡ old.bytes
+  pub why : Failed r old.bytes e
+
+-- what a reader returns that stood at one place and now stands at another: a value, or why there is none
+abbrev pub Reads : {X Y : Type 0} → (List ℕ → Read Y) → (X → Y → Type 0) → Place → Place → Result X Fault → Type 0
+Reads read means old new res = MatchResult res (λ x. Took (read (left old)) means old x new) (λ e. Stopped (read (left old)) old new e)
 
 -- the code's value is that of the model
 abbrev pub Is : {X Y : Type 0} → (X → Y) → X → Y → Type 0

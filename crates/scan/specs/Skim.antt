@@ -1,8 +1,12 @@
--- Going over an expression without keeping it. Assumes nothing.
-use Rattle.std.specs.Prelude.{ℕ, List, [], ◌∷◌, Result, MatchResult}
-use Rattle.format.specs.Read.{Read, got, bind, read_number, read_row, read_tagged}
-use Rattle.scan.specs.Reads.{Took, Failed}
-use Rattle.scan.specs.declared.fault.Fault.{Fault}
+-- Tags, and going over an expression without keeping it. Assumes nothing.
+use Rattle.std.specs.Prelude.{ℕ, ◌-◌, Bool, ◌&&◌, cond, List, [], ◌∷◌, nat_lt}
+use Rattle.model.specs.Parser.{Expr}
+use Rattle.model.specs.Refusal.{shallow_expr}
+use Rattle.format.specs.Read.{Read, got, failed, bind, read_number, read_row, read_tagged}
+
+-- a tag below so many; any other fails where it stands
+abbrev pub read_tag : ℕ → List ℕ → Read ℕ
+read_tag kinds bs = bind (read_number 1 bs) (λ tag rest. cond (nat_lt tag kinds) (got tag rest) (failed bs))
 
 -- what stands before the parts of an expression, and how many parts come: none of a header and of bits, one of a slice, two of a join
 abbrev pub head_choices : List ℕ → List (Read ℕ)
@@ -16,6 +20,6 @@ head_choices bs =
 abbrev pub read_head : List ℕ → Read ℕ
 read_head = read_tagged head_choices
 
--- where something ends that isn't kept, or why it doesn't
-abbrev pub Skims : {Y : Type 0} → Read Y → List ℕ → Result ℕ Fault → Type 0
-Skims r bytes res = MatchResult res (λ next. Took r (λ _ _. Unit {0}) bytes next next) (Failed r bytes)
+-- a part of an expression below which at most so many more may be
+abbrev pub shallow_part : Expr → ℕ → Bool
+shallow_part e depth = nat_lt 0 depth && shallow_expr e (depth - 1)

@@ -1,10 +1,8 @@
-// What is read from bytes at an offset: numbers, rows of bits, expressions. Read number, then expr.
-#![tactic(auto)]
+// A reader of bytes at an offset: numbers, rows of bits, expressions. Read reader, then reader/expr.
+#![tactic(auto, using(crate::proofs::Chain::exits))]
 
-mod expr;
 mod fault;
-mod number;
+mod reader;
 
-pub use expr::read_expr;
 pub use fault::Fault;
-pub use number::{read_number, read_row, read_u8, read_u16};
+pub use reader::Reader;

@@ -1,4 +1,0 @@
-use Rattle.scan.proofs.expr.+read_expr.Given as goal
-
-abbrev pub decreases-read_expr : goal.decreases-read_expr
-decreases-read_expr l = l.depth
