@@ -13,6 +13,8 @@ use settling::answer_at;
 use std::alloc::{AllocError, Global};
 
 mod everything;
+#[cfg(test)]
+mod tests;
 
 use everything::Everything;
 

@@ -1,13 +1,9 @@
 // What is asked for on the command line.
-use anyhow::anyhow;
+use crate::failure::Failure;
 use std::env;
 
 // As much as most machines have to spare: 128 MiB.
 const MOST_ROOM: u64 = 16_777_216;
-
-const NO_NUMBER: &'static str = "--most-room wants a number of at most 64 bits";
-
-const NO_OPTION: &'static str = "there is no such option: see --help";
 
 pub const HELP: &'static str = "\
 usage: vanadiummole [--hex] [--most-room N] [FILE..]
@@ -43,37 +39,34 @@ pub struct Options {
 }
 
 impl Options {
-    pub(crate) fn read(rt: &HostRuntime) -> anyhow::Result<Options> {
+    pub(crate) fn read(rt: &HostRuntime) -> Result<Options, Failure> {
         let mut options = Options {
             files: Vec::new(rt.alloc()),
             hex: false,
             help: false,
             most_room: MOST_ROOM,
         };
-        let mut wants_number = false;
-        for arg in env::args(rt)?.skip(1) {
-            if wants_number {
-                let Ok(most) = arg.as_str().parse::<u64>() else {
-                    return Err(anyhow!(NO_NUMBER));
-                };
-                options.most_room = most;
-                wants_number = false;
-                continue;
-            }
+        let mut args = env::args(rt)?.skip(1);
+        while let Some(arg) = args.next() {
             match arg.as_str() {
                 "--hex" => options.hex = true,
                 "--help" => options.help = true,
-                "--most-room" => wants_number = true,
-                other if other.starts_with("--") => return Err(anyhow!(NO_OPTION)),
+                "--most-room" => options.most_room = number(args.next())?,
+                other if other.starts_with("--") => return Err(Failure::NoOption),
                 _ => options.files.push(arg)?,
             }
-        }
-        if wants_number {
-            return Err(anyhow!(NO_NUMBER));
         }
         if options.files.is_empty() {
             options.files.push(String::from_str(rt.alloc(), "-")?)?;
         }
         Ok(options)
     }
+}
+
+// What `--most-room` is followed by.
+fn number(arg: Option<String>) -> Result<u64, Failure> {
+    let Some(Ok(number)) = arg.map(|text| text.parse::<u64>()) else {
+        return Err(Failure::NoNumber);
+    };
+    Ok(number)
 }
