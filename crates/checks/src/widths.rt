@@ -37,10 +37,7 @@ impl<'a> Widths<'a> {
     pub(crate) fn header(&self, h: u16) -> usize
         ensures { result ≡ slice_index self.now.sizes.now h }
     {
-        match self.sizes.get(h as usize) {
-            Some(size) => *size as usize,
-            None => 0,
-        }
+        self.sizes.get(h as usize).map_or(0, |size| *size as usize)
     }
 
     fn states(&self, states: &[State]) -> bool
