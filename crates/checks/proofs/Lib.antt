@@ -1,5 +1,4 @@
-pub mod Pairwise
+pub mod Tested
 pub mod Totals
 pub mod Parts
 pub mod Within
-pub mod Widest

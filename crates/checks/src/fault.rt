@@ -2,14 +2,19 @@
 ghost use Rattle.std.specs.Prelude.{◌≡◌};
 ghost use Rattle.checks.specs.Number.{number_of};
 
-use std::fmt;
+use thiserror::Error;
 
-#[derive(Clone, Copy, PartialEq, Eq, Debug)]
+#[derive(Clone, Copy, PartialEq, Eq, Debug, Error)]
 pub enum Fault {
+    #[error("the parser is beyond its limits")]
     Limits,
+    #[error("a header or a state that is named is not there")]
     Names,
+    #[error("a slice, an assigned value or a pattern has a wrong width")]
     Widths,
+    #[error("a state takes no bits")]
     TakesNothing,
+    #[error("a state takes too many bits")]
     TakesTooMuch,
 }
 
@@ -24,20 +29,6 @@ impl Fault {
             Fault::Widths => 4,
             Fault::TakesNothing => 5,
             Fault::TakesTooMuch => 6,
-        }
-    }
-}
-
-impl fmt::Display for Fault {
-    fn fmt<W: fmt::Write>(&self, f: &mut fmt::Formatter<W>) -> fmt::Result {
-        match self {
-            Fault::Limits => f.write_str("the parser is beyond its limits"),
-            Fault::Names => f.write_str("a header or a state that is named is not there"),
-            Fault::Widths => f.write_str(
-                "a slice, an assigned value or a pattern has a wrong width",
-            ),
-            Fault::TakesNothing => f.write_str("a state takes no bits"),
-            Fault::TakesTooMuch => f.write_str("a state takes too many bits"),
         }
     }
 }

@@ -1,13 +1,11 @@
 // Is a parser right, or what is wrong with it; are a store and an input right.
-// Read each, pairs and pay, which go over lists; then limits, names, widths and taking, in the order of the checks; then right. contents stands alone.
+// Read contents; then pay and limits, names, widths and taking, in the order of the checks; then right.
 #![tactic(auto)]
 
 mod contents;
-mod each;
 mod fault;
 mod limits;
 mod names;
-mod pairs;
 mod pay;
 mod right;
 mod taking;

@@ -1,13 +1,13 @@
 // Is a parser within its limits: how many headers, bits, states and parts it has, and how deep its expressions are.
-ghost use Rattle.std.specs.Prelude.{◌≡◌, map, nat_lt};
+ghost use Rattle.std.specs.Prelude.{◌≡◌, ◌≤◌, length, map, nat_lt, sum};
+ghost use Rattle.std.specs.List.{list_all};
 ghost use Rattle.model.specs.Refusal.{parts_case, parts_expr, parts_op, parts_pattern, parts_state};
-ghost use Rattle.model.specs.Refusal.{shallow_expr, shallow_op, shallow_state, sum, total, within_limits};
+ghost use Rattle.model.specs.Refusal.{shallow_expr, shallow_op, shallow_state, within_limits};
 ghost use Rattle.model.specs.Refusal.{shallow as within_depth};
 ghost use Rattle.syntax.specs.View.{case_of, expr_of, op_of, parser_of, pattern_of, state_of};
-ghost use Rattle.checks.specs.Measured.{Measured, Spent, headers_within, states_within};
+ghost use Rattle.checks.specs.Measured.{Spent, headers_within, states_within};
 
-use crate::each::{Test, each};
-use crate::pay::{Price, pay_all};
+use crate::pay::{Parts, pay_all};
 use syntax::{Case, Expr, Op, Parser, Pattern, State};
 
 // What a parser may have at most.
@@ -22,109 +22,85 @@ const PARTS: usize = 16384;
 // How many expressions may stand around one.
 const DEPTH: u8 = 15;
 
-// How many parts the states have, if the whole parser is within its limits. Depth is looked at before what else recurses.
-pub(crate) fn count_parts(parser: &Parser) -> Option<usize>
-    ensures { Measured (within_limits (parser_of parser.now)) (total parts_state (parser_of parser.now).states) result }
+// Depth is looked at before what else recurses.
+pub(crate) fn within_limits(parser: &Parser) -> bool
+    ensures { result ≡ within_limits (parser_of parser.now) }
 {
-    let _bits = header_bits(parser.sizes.as_slice())?;
-    if !each(&Shallow, parser.states.as_slice()) {
-        return None;
-    }
-    state_parts(parser.states.as_slice())
+    headers_within(&parser.sizes) && are_shallow(&parser.states) && states_within(&parser.states)
 }
 
-// How many bits the headers have together, if there are not too many, and each has one at least.
-fn header_bits(sizes: &[u16]) -> Option<usize>
-    ensures { Measured (headers_within sizes.now) (sum sizes.now) result }
+// Are the headers few, with a bit each at least, and not too many together?
+fn headers_within(sizes: &[u16]) -> bool
+    ensures { result ≡ headers_within sizes.now }
 {
-    if sizes.len() > HEADERS || !each(&Positive, sizes) {
-        return None;
-    }
-    let left = pay_all(&Itself, sizes, HEADER_BITS)?;
-    Some(HEADER_BITS - left)
+    sizes.len() <= HEADERS && have_bits(sizes) && header_bits(sizes) <= HEADER_BITS
 }
 
-// How many parts the states have, if not too many.
-fn state_parts(states: &[State]) -> Option<usize>
-    ensures { Measured (states_within (map state_of states.now)) (total parts_state (map state_of states.now)) result }
+fn have_bits(sizes: &[u16]) -> bool
+    ensures { result ≡ list_all (nat_lt 0) sizes.now }
 {
-    if states.len() > STATES {
-        return None;
-    }
-    let left = pay_all(&Parts, states, PARTS)?;
-    Some(PARTS - left)
+    sizes.iter().all(|size| *size > 0)
 }
 
-#[derive(Drop)]
-struct Positive;
-
-impl Test<u16> for Positive {
-    ghost holds = { λ _ n. nat_lt 0 n };
-
-    fn test(&self, size: &u16) -> bool {
-        *size > 0
-    }
+fn header_bits(sizes: &[u16]) -> usize
+    requires { length sizes.now ≤ 64 }
+    ensures { result ≡ sum sizes.now }
+{
+    sizes.iter().map(|size| *size as usize).sum()
 }
 
-#[derive(Drop)]
-struct Itself;
-
-impl Price<u16> for Itself {
-    ghost cost = { λ _ n. n };
-
-    fn pay(&self, size: &u16, left: usize) -> Option<usize> {
-        left.checked_sub(*size as usize)
-    }
+// Are the states few, and their parts?
+fn states_within(states: &[State]) -> bool
+    ensures { result ≡ states_within (map state_of states.now) }
+{
+    states.len() <= STATES && pay_all(states, PARTS).is_some()
 }
 
-#[derive(Drop)]
-struct Parts;
+impl Parts for State {
+    ghost parts = { λ q. parts_state (state_of q) };
 
-impl Price<State> for Parts {
-    ghost cost = { λ _ q. parts_state (state_of q) };
-
-    fn pay(&self, state: &State, left: usize) -> Option<usize> {
+    fn pay(&self, left: usize) -> Option<usize> {
         let left = left.checked_sub(1)?;
-        let left = pay_all(self, state.ops.as_slice(), left)?;
-        let left = pay_all(self, state.keys.as_slice(), left)?;
-        pay_all(self, state.cases.as_slice(), left)
+        let left = pay_all(&self.ops, left)?;
+        let left = pay_all(&self.keys, left)?;
+        pay_all(&self.cases, left)
     }
 }
 
-impl Price<Op> for Parts {
-    ghost cost = { λ _ o. parts_op (op_of o) };
+impl Parts for Op {
+    ghost parts = { λ o. parts_op (op_of o) };
 
-    fn pay(&self, op: &Op, left: usize) -> Option<usize> {
+    fn pay(&self, left: usize) -> Option<usize> {
         let left = left.checked_sub(1)?;
-        match op {
+        match self {
             Op::Extract(_) => Some(left),
-            Op::Assign(_, e) => pay_expr(e, left),
+            Op::Assign(_, e) => e.pay(left),
         }
     }
 }
 
-impl Price<Expr> for Parts {
-    ghost cost = { λ _ e. parts_expr (expr_of e) };
+impl Parts for Expr {
+    ghost parts = { λ e. parts_expr (expr_of e) };
 
-    fn pay(&self, e: &Expr, left: usize) -> Option<usize> {
-        pay_expr(e, left)
+    fn pay(&self, left: usize) -> Option<usize> {
+        pay_expr(self, left)
     }
 }
 
-impl Price<Case> for Parts {
-    ghost cost = { λ _ k. parts_case (case_of k) };
+impl Parts for Case {
+    ghost parts = { λ k. parts_case (case_of k) };
 
-    fn pay(&self, case: &Case, left: usize) -> Option<usize> {
-        pay_all(self, case.patterns.as_slice(), left.checked_sub(1)?)
+    fn pay(&self, left: usize) -> Option<usize> {
+        pay_all(&self.patterns, left.checked_sub(1)?)
     }
 }
 
-impl Price<Pattern> for Parts {
-    ghost cost = { λ _ p. parts_pattern (pattern_of p) };
+impl Parts for Pattern {
+    ghost parts = { λ p. parts_pattern (pattern_of p) };
 
-    fn pay(&self, pattern: &Pattern, left: usize) -> Option<usize> {
+    fn pay(&self, left: usize) -> Option<usize> {
         let left = left.checked_sub(1)?;
-        match pattern {
+        match self {
             Pattern::Exactly(bits) => left.checked_sub(bits.len()),
             Pattern::Any => Some(left),
         }
@@ -146,34 +122,31 @@ fn pay_expr(e: &Expr, left: usize) -> Option<usize>
     }
 }
 
-#[derive(Drop)]
-struct Shallow;
-
-impl Test<State> for Shallow {
-    ghost holds = { λ _ q. shallow_state (state_of q) };
-
-    fn test(&self, state: &State) -> bool {
-        each(self, state.ops.as_slice()) && each(self, state.keys.as_slice())
-    }
+fn are_shallow(states: &[State]) -> bool
+    ensures { result ≡ list_all (λ q. shallow_state (state_of q)) states.now }
+{
+    states.iter().all(|state| is_shallow_state(state))
 }
 
-impl Test<Op> for Shallow {
-    ghost holds = { λ _ o. shallow_op (op_of o) };
-
-    fn test(&self, op: &Op) -> bool {
-        match op {
-            Op::Extract(_) => true,
-            Op::Assign(_, e) => is_shallow(e, DEPTH),
-        }
-    }
+fn is_shallow_state(state: &State) -> bool
+    ensures { result ≡ shallow_state (state_of state.now) }
+{
+    are_shallow_ops(&state.ops) && are_shallow_keys(&state.keys)
 }
 
-impl Test<Expr> for Shallow {
-    ghost holds = { λ _ e. within_depth (expr_of e) };
+fn are_shallow_ops(ops: &[Op]) -> bool
+    ensures { result ≡ list_all (λ o. shallow_op (op_of o)) ops.now }
+{
+    ops.iter().all(|op| match op {
+        Op::Extract(_) => true,
+        Op::Assign(_, e) => is_shallow(e, DEPTH),
+    })
+}
 
-    fn test(&self, e: &Expr) -> bool {
-        is_shallow(e, DEPTH)
-    }
+fn are_shallow_keys(keys: &[Expr]) -> bool
+    ensures { result ≡ list_all (λ e. within_depth (expr_of e)) keys.now }
+{
+    keys.iter().all(|e| is_shallow(e, DEPTH))
 }
 
 fn is_shallow(e: &Expr, depth: u8) -> bool

@@ -3,20 +3,21 @@ ghost use Rattle.std.specs.Prelude.{ℕ};
 ghost use Rattle.model.specs.Refusal.{total};
 ghost use Rattle.checks.specs.Measured.{Spent};
 
-// What an element costs; none where that is more than is left.
-pub(crate) trait Price<X> {
-    ghost cost: { Self → X → ℕ };
+// What has parts.
+pub(crate) trait Parts {
+    ghost parts: { Self → ℕ };
 
-    fn pay(&self, element: &X, left: usize) -> Option<usize>
-        ensures { Spent (cost self.now element.now) left result };
+    // What is left of an allowance, none where it has more parts.
+    fn pay(&self, left: usize) -> Option<usize>
+        ensures { Spent (parts self.now) left result };
 }
 
 // What is left after all.
-pub(crate) fn pay_all<X, P: Price<X>>(price: &P, elements: &[X], mut left: usize) -> Option<usize>
-    ensures { Spent (total (P.cost price.now) elements.now) left result }
+pub(crate) fn pay_all<X: Parts>(elements: &[X], mut left: usize) -> Option<usize>
+    ensures { Spent (total X.parts elements.now) left result }
 {
     for element in elements {
-        left = price.pay(element, left)?;
+        left = element.pay(left)?;
     }
     Some(left)
 }

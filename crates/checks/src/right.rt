@@ -5,9 +5,9 @@ ghost use Rattle.syntax.specs.View.{parser_of};
 ghost use Rattle.checks.specs.Number.{number_of};
 
 use crate::fault::Fault;
-use crate::limits::count_parts;
+use crate::limits::within_limits;
 use crate::names::named;
-use crate::taking::{takes, widest_state};
+use crate::taking::{narrow, takes};
 use crate::widths::sized;
 use syntax::{Checked, Parser};
 
@@ -15,9 +15,9 @@ use syntax::{Checked, Parser};
 pub fn check(parser: Parser) -> Result<Checked, Fault>
     ensures { MatchResult result (λ c. c.parser ≡ parser) (λ f. fault (parser_of parser) ≡ number_of f) }
 {
-    let Some(_parts) = count_parts(&parser) else {
+    if !within_limits(&parser) {
         return Err(Fault::Limits);
-    };
+    }
     if !named(&parser) {
         return Err(Fault::Names);
     }
@@ -27,8 +27,8 @@ pub fn check(parser: Parser) -> Result<Checked, Fault>
     if !takes(&parser) {
         return Err(Fault::TakesNothing);
     }
-    let Some(_widest) = widest_state(&parser) else {
+    if !narrow(&parser) {
         return Err(Fault::TakesTooMuch);
-    };
+    }
     Ok(Checked { parser })
 }

@@ -1,14 +1,13 @@
 // Has each part of a parser its width: slices lie within, what is assigned fills its header, and a pattern is as wide as its key.
-ghost use Rattle.std.specs.Prelude.{◌≡◌, ◌<◌, slice_index};
-ghost use Rattle.model.specs.Refusal.{expr_width, sized_expr, sized_op, sized_state};
+ghost use Rattle.std.specs.Prelude.{◌≡◌, slice_index};
+ghost use Rattle.std.specs.List.{list_all, zip};
+ghost use Rattle.model.specs.Refusal.{expr_width, sized_expr, sized_op, sized_patterns, sized_state};
 ghost use Rattle.model.specs.Refusal.{sized as all_sized};
 ghost use Rattle.syntax.specs.View.{expr_of, op_of, parser_of, pattern_of, state_of};
 ghost use Rattle.checks.specs.Measured.{Measured};
-ghost use Rattle.checks.specs.Paired.{pairwise, sized_pattern};
+ghost use Rattle.checks.specs.Paired.{paired_patterns, sized_pattern};
 
 use crate::contents::are_bits;
-use crate::each::{Test, each};
-use crate::pairs::{Pair, pairs};
 use syntax::{Case, Expr, Op, Parser, Pattern, State};
 
 // Nothing is wider.
@@ -18,122 +17,117 @@ const WIDEST: usize = 4096;
 pub(crate) fn sized(parser: &Parser) -> bool
     ensures { result ≡ all_sized (parser_of parser.now) }
 {
-    let widths = Widths {
-        sizes: parser.sizes.as_slice(),
-    };
-    each(&widths, parser.states.as_slice())
+    Widths::new(&parser.sizes).states(&parser.states)
 }
 
-// How many bits a header has: none where there is no such header.
-pub(crate) fn header_width(sizes: &[u16], h: u16) -> usize
-    ensures { result ≡ slice_index sizes.now h }
-{
-    if (h as usize) < sizes.len() {
-        sizes[h as usize] as usize
-    } else {
-        0
+// How wide the headers are.
+#[derive(Clone, Copy)]
+pub(crate) struct Widths<'a> {
+    pub(crate) sizes: &'a [u16],
+}
+
+impl<'a> Widths<'a> {
+    pub(crate) fn new(sizes: &'a [u16]) -> Widths<'a>
+        ensures { result.sizes.now ≡ sizes.now }
+    {
+        Widths { sizes }
     }
-}
 
-#[derive(Drop)]
-struct Widths<'a> {
-    sizes: &'a [u16],
-}
-
-impl Test<State> for Widths<'_> {
-    ghost holds = { λ widths q. sized_state widths.sizes.now (state_of q) };
-
-    fn test(&self, state: &State) -> bool {
-        let select = Select {
-            sizes: self.sizes,
-            keys: state.keys.as_slice(),
-        };
-        each(self, state.ops.as_slice())
-            && each(self, state.keys.as_slice())
-            && each(&select, state.cases.as_slice())
+    // How many bits a header has: none where there is no such header.
+    pub(crate) fn header(&self, h: u16) -> usize
+        ensures { result ≡ slice_index self.now.sizes.now h }
+    {
+        self.sizes.get(h as usize).map_or(0, |size| *size as usize)
     }
-}
 
-impl Test<Op> for Widths<'_> {
-    ghost holds = { λ widths o. sized_op widths.sizes.now (op_of o) };
-
-    fn test(&self, op: &Op) -> bool {
-        match op {
-            Op::Extract(_) => true,
-            Op::Assign(h, e) => {
-                let Some(n) = width(e, self.sizes) else {
-                    return false;
-                };
-                n == header_width(self.sizes, *h)
-            }
-        }
+    fn states(&self, states: &[State]) -> bool
+        ensures { result ≡ list_all (λ q. sized_state self.now.sizes.now (state_of q)) states.now }
+    {
+        states.iter().all(|state| self.state(state))
     }
-}
 
-impl Test<Expr> for Widths<'_> {
-    ghost holds = { λ widths e. sized_expr widths.sizes.now (expr_of e) };
-
-    fn test(&self, e: &Expr) -> bool {
-        width(e, self.sizes).is_some()
+    fn state(&self, state: &State) -> bool
+        ensures { result ≡ sized_state self.now.sizes.now (state_of state.now) }
+    {
+        self.ops(&state.ops) && self.exprs(&state.keys) && self.cases(&state.keys, &state.cases)
     }
-}
 
-// The keys that the patterns of each case stand beside.
-#[derive(Drop)]
-struct Select<'a, 'b> {
-    sizes: &'a [u16],
-    keys: &'b [Expr],
-}
-
-impl Test<Case> for Select<'_, '_> {
-    ghost holds = { λ select k. pairwise (λ e p. sized_pattern select.sizes.now (expr_of e) (pattern_of p)) select.keys.now k.patterns.items };
-
-    fn test(&self, case: &Case) -> bool {
-        let widths = Widths { sizes: self.sizes };
-        pairs(&widths, self.keys, case.patterns.as_slice())
+    fn ops(&self, ops: &[Op]) -> bool
+        ensures { result ≡ list_all (λ o. sized_op self.now.sizes.now (op_of o)) ops.now }
+    {
+        ops.iter().all(|op| self.op(op))
     }
-}
 
-impl Pair<Expr, Pattern> for Widths<'_> {
-    ghost agrees = { λ widths e p. sized_pattern widths.sizes.now (expr_of e) (pattern_of p) };
+    fn exprs(&self, exprs: &[Expr]) -> bool
+        ensures { result ≡ list_all (λ e. sized_expr self.now.sizes.now (expr_of e)) exprs.now }
+    {
+        exprs.iter().all(|e| self.expr(e).is_some())
+    }
 
-    fn pair(&self, key: &Expr, pattern: &Pattern) -> bool {
+    fn cases(&self, keys: &[Expr], cases: &[Case]) -> bool
+        ensures { result ≡ list_all (λ k. paired_patterns self.now.sizes.now keys.now k.patterns.items) cases.now }
+    {
+        cases.iter().all(|case| self.patterns(keys, &case.patterns))
+    }
+
+    // A pattern for each key.
+    fn patterns(&self, keys: &[Expr], patterns: &[Pattern]) -> bool
+        ensures { result ≡ paired_patterns self.now.sizes.now keys.now patterns.now }
+    {
+        keys.len() == patterns.len() && self.each_pattern(keys, patterns)
+    }
+
+    fn each_pattern(&self, keys: &[Expr], patterns: &[Pattern]) -> bool
+        ensures { result ≡ list_all (λ p. sized_pattern self.now.sizes.now (expr_of p.0) (pattern_of p.1)) (zip keys.now patterns.now) }
+    {
+        keys.iter()
+            .zip(patterns)
+            .all(|(key, pattern)| self.pattern(key, pattern))
+    }
+
+    fn pattern(&self, key: &Expr, pattern: &Pattern) -> bool
+        ensures { result ≡ sized_pattern self.now.sizes.now (expr_of key.now) (pattern_of pattern.now) }
+    {
         match pattern {
-            Pattern::Exactly(bits) => {
-                let Some(n) = width(key, self.sizes) else {
-                    return false;
-                };
-                are_bits(bits.as_slice()) && bits.len() == n
-            }
+            Pattern::Exactly(bits) => self.expr(key) == Some(bits.len()) && are_bits(bits),
             Pattern::Any => true,
         }
     }
-}
 
-// How many bits an expression has, if those of its parts are right.
-fn width(e: &Expr, sizes: &[u16]) -> Option<usize>
-    ensures { Measured (sized_expr sizes.now (expr_of e.now)) (expr_width sizes.now (expr_of e.now)) result }
-{
-    match e {
-        Expr::Header(h) => Some(header_width(sizes, *h)),
-        Expr::Bits(bits) => {
-            if are_bits(bits.as_slice()) && bits.len() <= WIDEST {
-                Some(bits.len())
-            } else {
-                None
-            }
+    fn op(&self, op: &Op) -> bool
+        ensures { result ≡ sized_op self.now.sizes.now (op_of op.now) }
+    {
+        match op {
+            Op::Extract(_) => true,
+            Op::Assign(h, e) => self.expr(e) == Some(self.header(*h)),
         }
-        Expr::Slice(inner, lo, hi) => {
-            let n = width(inner, sizes)?;
-            if lo <= hi && (*hi as usize) < n {
-                Some(*hi as usize + 1 - *lo as usize)
-            } else {
-                None
+    }
+
+    // How many bits an expression has, if those of its parts are right.
+    fn expr(&self, e: &Expr) -> Option<usize>
+        ensures { Measured (sized_expr self.now.sizes.now (expr_of e.now)) (expr_width self.now.sizes.now (expr_of e.now)) result }
+    {
+        match e {
+            Expr::Header(h) => Some(self.header(*h)),
+            Expr::Bits(bits) => {
+                if are_bits(bits) && bits.len() <= WIDEST {
+                    Some(bits.len())
+                } else {
+                    None
+                }
             }
-        }
-        Expr::Join(first, second) => {
-            let n = width(first, sizes)?.saturating_add(width(second, sizes)?);
-            if n <= WIDEST { Some(n) } else { None }
+            Expr::Slice(inner, lo, hi) => {
+                let n = self.expr(inner)?;
+                if lo <= hi && (*hi as usize) < n {
+                    Some(*hi as usize + 1 - *lo as usize)
+                } else {
+                    None
+                }
+            }
+            Expr::Join(first, second) => {
+                let n = self.expr(first)?.saturating_add(self.expr(second)?);
+                if n <= WIDEST { Some(n) } else { None }
+            }
         }
     }
 }

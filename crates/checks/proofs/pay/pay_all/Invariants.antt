@@ -4,4 +4,4 @@ use Rattle.checks.proofs.pay.pay_all.Given as goal
 
 abbrev pub invariant-loop-element : goal.invariant-loop-element
 invariant-loop-element g l =
-    l.left + total (g.P.Price.cost l.price) l.elements ≡ l.initial.left + total (g.P.Price.cost l.price) (drop l.element-index l.elements)
+    l.left + total g.X.Parts.parts l.elements ≡ l.initial.left + total g.X.Parts.parts (drop l.element-index l.elements)

@@ -1,6 +1,6 @@
-use Rattle.std.proofs.Common.{◌∙◌}
+use Rattle.std.proofs.Common.{rules}
 use Rattle.checks.proofs.Parts.{taking_of}
 use Rattle.checks.proofs.taking.takes.Goals as goal
 
 pub returns : goal.returns
-returns c = c.each.ensures ∙ taking_of c.args.parser.now c.as_slice.ensures.value c.as_slice-2.ensures.value
+returns c = rw taking_of (search rules)

@@ -1,6 +1,0 @@
-use Rattle.std.proofs.Common.{rules}
-use Rattle.checks.proofs.Totals.{parts_case_of}
-use Rattle.checks.proofs.limits.PartsPriceCase.pay.Goals as goal
-
-pub returns : goal.returns
-returns c = rw parts_case_of (search rules)
