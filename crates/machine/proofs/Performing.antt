@@ -1,6 +1,6 @@
 -- The loop that performs ops. Assumes nothing.
-use Rattle.std.proofs.Common.{◌≡◌, ℕ, ◌+◌, ◌<◌, ◌≤◌, true, List, ◌∷◌, map, length, get_or, take, drop, set, sym, ap, ◌∙◌, subst, ap₂, arith}
-use Rattle.std.proofs.lemmas.List.{drop_all, drop-drop}
+use Rattle.std.proofs.Common.{◌≡◌, ℕ, ◌+◌, ◌<◌, ◌≤◌, true, List, ◌∷◌, map, length, get_or, take, drop, set, sym, ap, ◌∙◌, subst, arith}
+use Rattle.std.proofs.lemmas.List.{drop_all, take-take, length-drop}
 use Rattle.std.proofs.lemmas.Bool.{and_parts, ltb-true, eqb-true}
 use Rattle.model.specs.Parser as M
 use Rattle.model.specs.Refusal.{every, named_op, named_expr, sized_op, sized_expr, expr_width}
@@ -11,39 +11,44 @@ use Rattle.syntax.specs.declared.ast.Op.TheVariants.{Extract, Assign}
 use Rattle.model.proofs.Every.{drop_read, every_read}
 
 -- the ops that are ahead lead to the same end, and have the bits that they take
-pub record Going (ns : List ℕ) (end s : M.Store) (ops : List Op) (bs : List ℕ) (i at : ℕ) : Type 0 where
-  pub same : M.run_ops ns (map op_of (drop i ops)) (drop at bs) s ≡ end
-  pub room : at + M.ops_width ns (map op_of (drop i ops)) ≤ length bs
+pub record Going (ns : List ℕ) (end s : M.Store) (ops : List Op) (bs : List ℕ) (i : ℕ) : Type 0 where
+  pub same : M.run_ops ns (map op_of (drop i ops)) bs s ≡ end
+  pub room : M.ops_width ns (map op_of (drop i ops)) ≤ length bs
 
-module _ (ns : List ℕ) {end s : M.Store} {ops : List Op} {bs : List ℕ} {i at : ℕ} {op : Op}
-    (going : Going ns end s ops bs i at) (l : i < length ops) (read : op ≡ get_or ops i op) where
+module _ (ns : List ℕ) {end s : M.Store} {ops : List Op} {bs : List ℕ} {i : ℕ} {op : Op}
+    (going : Going ns end s ops bs i) (l : i < length ops) (read : op ≡ get_or ops i op) where
   -- what is ahead, once the op is known
   at_op : {o : Op} → op ≡ o → {Y : Type 0} (F : List Op → Y) → F (drop i ops) ≡ F (o ∷ drop (i + 1) ops)
   at_op is F = ap F (drop_read ops i op l read) ∙ ap (λ x. F (x ∷ drop (i + 1) ops)) is
 
   module _ {h : ℕ} (is : op ≡ Extract h) where
-    pub extract_room : at + (get_or ns h 0 + M.ops_width ns (map op_of (drop (i + 1) ops))) ≤ length bs
-    extract_room = subst (λ n. at + n ≤ length bs) (at_op is (λ os. M.ops_width ns (map op_of os))) going.room
+    pub extract_room : get_or ns h 0 + M.ops_width ns (map op_of (drop (i + 1) ops)) ≤ length bs
+    extract_room = subst (λ n. n ≤ length bs) (at_op is (λ os. M.ops_width ns (map op_of os))) going.room
 
-    pub extracted : {u : M.Store} {to n : ℕ} → to ≡ at + n → n ≡ get_or ns h 0 → u ≡ set s h (take (get_or ns h 0) (drop at bs)) → Going ns end u ops bs (i + 1) to
-    extracted {u} {to} {n} on all wrote =
-        let at' : to ≡ at + get_or ns h 0 = omega arith in
-        record {
-          same = ap₂ (λ b v. M.run_ops ns (map op_of (drop (i + 1) ops)) b v) (ap (λ m. drop m bs) at' ∙ sym (drop-drop (get_or ns h 0) at bs)) wrote ∙ sym (at_op is (λ os. M.run_ops ns (map op_of os) (drop at bs) s)) ∙ going.same;
-          room = omega (arith, extract_room);
-        }
-
-  module _ {h : ℕ} {e : Expr} (is : op ≡ Assign h e) where
-    pub assigned : {u : M.Store} {to : ℕ} → to ≡ at → u ≡ set s h (M.value s (expr_of e)) → Going ns end u ops bs (i + 1) to
-    assigned {u} {to} stays wrote =
-        subst (λ m. Going ns end u ops bs (i + 1) m) (sym stays)
+    -- n bits are taken off the front
+    pub extracted : {u : M.Store} {n : ℕ} {front rest rest' : List ℕ} → n ≡ get_or ns h 0 → front ≡ take n bs → rest ≡ drop n bs → rest' ≡ rest
+        → u ≡ set s h (take (get_or ns h 0) front) → Going ns end u ops rest' (i + 1)
+    extracted {u} {n} {front} {rest} {rest'} size front_is rest-is rest'_is wrote =
+        let m : ℕ = get_or ns h 0 in
+        let all : rest' ≡ drop m bs = rest'_is ∙ rest-is ∙ ap (λ k. drop k bs) size in
+        let first : take m front ≡ take m bs = ap (take m) (front_is ∙ ap (λ k. take k bs) size) ∙ take-take m m bs (omega arith) in
+        subst (λ xs. Going ns end u ops xs (i + 1)) (sym all)
         (record {
-          same = ap (λ v. M.run_ops ns (map op_of (drop (i + 1) ops)) (drop at bs) v) wrote ∙ sym (at_op is (λ os. M.run_ops ns (map op_of os) (drop at bs) s)) ∙ going.same;
-          room = subst (λ n. at + n ≤ length bs) (at_op is (λ os. M.ops_width ns (map op_of os))) going.room;
+          same = ap (λ v. M.run_ops ns (map op_of (drop (i + 1) ops)) (drop m bs) v) (wrote ∙ ap (set s h) first) ∙ sym (at_op is (λ os. M.run_ops ns (map op_of os) bs s)) ∙ going.same;
+          room = omega (arith, extract_room, length-drop m bs);
         })
 
-pub all_done : (ns : List ℕ) {end s : M.Store} {ops : List Op} {bs : List ℕ} {i at : ℕ} → Going ns end s ops bs i at → length ops ≤ i → s ≡ end
-all_done ns {end} {s} {ops} {bs} {i} {at} going l = sym (ap (λ os. M.run_ops ns (map op_of os) (drop at bs) s) (drop_all i ops l)) ∙ going.same
+  module _ {h : ℕ} {e : Expr} (is : op ≡ Assign h e) where
+    pub assigned : {u : M.Store} {rest : List ℕ} → rest ≡ bs → u ≡ set s h (M.value s (expr_of e)) → Going ns end u ops rest (i + 1)
+    assigned {u} {rest} stays wrote =
+        subst (λ xs. Going ns end u ops xs (i + 1)) (sym stays)
+        (record {
+          same = ap (λ v. M.run_ops ns (map op_of (drop (i + 1) ops)) bs v) wrote ∙ sym (at_op is (λ os. M.run_ops ns (map op_of os) bs s)) ∙ going.same;
+          room = subst (λ n. n ≤ length bs) (at_op is (λ os. M.ops_width ns (map op_of os))) going.room;
+        })
+
+pub all_done : (ns : List ℕ) {end s : M.Store} {ops : List Op} {bs : List ℕ} {i : ℕ} → Going ns end s ops bs i → length ops ≤ i → s ≡ end
+all_done ns {end} {s} {ops} {bs} {i} going l = sym (ap (λ os. M.run_ops ns (map op_of os) bs s) (drop_all i ops l)) ∙ going.same
 
 -- an assign op that is right
 pub record Fits (ns : List ℕ) (h : ℕ) (e : M.Expr) : Type 0 where

@@ -1,5 +1,6 @@
 // How many bits a machine can hold: in its headers, and in wait for its widest state.
-ghost use Rattle.std.specs.Prelude.{◌≡◌, ℕ, ◌≤◌};
+ghost use Rattle.std.specs.Prelude.{◌≡◌, ℕ, ◌≤◌, max, sum as sum_of};
+ghost use Rattle.std.specs.List.{fold};
 ghost use Rattle.model.specs.Refusal.{sum, widest as widest_of};
 ghost use Rattle.machine.specs.View.{parser_in, sizes_in};
 
@@ -11,11 +12,7 @@ impl Machine {
         ensures value { result ≡ sum (sizes_in self.now) }
         ensures few { result ≤ 4096 }
     {
-        let mut total = 0;
-        for size in self.checked.parser.sizes.iter() {
-            total += *size as usize;
-        }
-        total
+        total(&self.checked.parser.sizes)
     }
 
     // how many bits the widest state takes
@@ -23,10 +20,20 @@ impl Machine {
         ensures value { result ≡ widest_of (sizes_in self.now) (parser_in self.now).states }
         ensures few { result ≤ 4096 }
     {
-        let mut most: u16 = 0;
-        for width in self.widths.iter() {
-            most = most.max(*width);
-        }
-        most as usize
+        greatest(&self.widths) as usize
     }
+}
+
+fn total(sizes: &[u16]) -> usize
+    requires { sum_of sizes.now ≤ 4096 }
+    ensures { result ≡ sum_of sizes.now }
+{
+    sizes.iter().map(|size| *size as usize).sum()
+}
+
+// the greatest, or 0 where there is none
+fn greatest(widths: &[u16]) -> u16
+    ensures { result ≡ fold max 0 widths.now }
+{
+    widths.iter().fold(0, |most, width| most.max(*width))
 }

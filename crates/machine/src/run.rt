@@ -28,18 +28,17 @@ impl Machine {
         ensures { result ≡ accepts (parser_in self.now) (contents self.now store.old) start input.now }
     {
         let mut target = Target::State(start);
-        let mut at = 0;
+        let mut rest = input;
         loop {
             match target {
                 Target::State(q) => {
-                    let n = self.width(q);
-                    if input.len() - at < n {
+                    let Some((part, after)) = rest.split_at_checked(self.width(q)) else {
                         return false;
-                    }
-                    target = self.walk(q, store, &input[at..at + n]);
-                    at += n;
+                    };
+                    target = self.walk(q, store, part);
+                    rest = after;
                 }
-                Target::Accept => return at == input.len(),
+                Target::Accept => return rest.is_empty(),
                 Target::Reject => return false,
             }
         }

@@ -41,12 +41,13 @@ impl Machine {
         requires wide { length part.now ≡ ops_width (sizes_in self.now) (state_of state.now).ops }
         ensures { contents self.now store.new ≡ run_ops (sizes_in self.now) (state_of state.now).ops part.now (contents self.now store.old) }
     {
-        let mut at = 0;
+        let mut rest = part;
         for op in state.ops.iter() {
             match op {
                 Op::Extract(h) => {
-                    self.put(*h, store, &part[at..]);
-                    at += self.size(*h);
+                    let (bits, after) = rest.split_at(self.size(*h));
+                    self.put(*h, store, bits);
+                    rest = after;
                 }
                 Op::Assign(h, e) => self.assign(*h, store, e),
             }

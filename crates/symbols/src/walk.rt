@@ -26,12 +26,13 @@ pub(crate) fn perform(
     requires aside { header_bits machine.now ≤ length scratch.old }
     ensures { symbols_in machine.now heads.new ≡ run_ops (sizes_in machine.now) (state_of state.now).ops part.now (symbols_in machine.now heads.old) }
 {
-    let mut at = 0;
+    let mut rest = part;
     for op in state.ops.iter() {
         match op {
             Op::Extract(h) => {
-                put(machine, *h, heads, &part[at..]);
-                at += machine.size(*h);
+                let (symbols, after) = rest.split_at(machine.size(*h));
+                put(machine, *h, heads, symbols);
+                rest = after;
             }
             Op::Assign(h, e) => assign(machine, *h, heads, e, scratch),
         }

@@ -1,5 +1,4 @@
-use Rattle.std.proofs.Common.{ℕ, List, map, length, get_or, take, set, ap, ◌∙◌, arith}
-use Rattle.std.proofs.lemmas.List.{take_rest, length-drop}
+use Rattle.std.proofs.Common.{ℕ, List, map, Bor, ap, ◌∙◌, arith}
 use Rattle.model.specs.Refusal.{every, named_op, sized_op}
 use Rattle.syntax.specs.View.{op_of}
 use Rattle.machine.specs.View.{sizes_in}
@@ -9,26 +8,24 @@ use Rattle.symbols.specs.View.{symbols_in}
 use Rattle.symbols.proofs.walk.perform.Goals as goal
 use Rattle.symbols.proofs.walk.perform.Goals.{in-Extract, in-Assign}
 
-pub put-requires : goal.put-requires
-put-requires c =
-    let ns : List ℕ = sizes_in c.args.machine.now in
-    let named = ap (λ os. every (named_op ns) (map op_of os)) c.deref-op-items.ensures.value ∙ c.requires.sound.named_ops in
-    let at : ℕ = c.loop-op.at in
-    let bs : List ℕ = c.args.part.now in
-    record {
-      known = extract_known ns c.deref-op-items.result.now named c.loop-op-test.true c.op-item.is c.in-Extract.is;
-      there = omega (arith, c.requires.there, c.loop-op.auto.heads);
-      long = omega (arith, extract_room ns c.loop-op.invariant c.loop-op-test.true c.op-item.is c.in-Extract.is, ap length (take_rest bs at), length-drop at bs);
-    }
-
-pub size-at-requires : goal.size-at-requires
-size-at-requires c =
+pub size-requires : goal.size-requires
+size-requires c =
     let ns : List ℕ = sizes_in c.args.machine.now in
     let named = ap (λ os. every (named_op ns) (map op_of os)) c.deref-op-items.ensures.value ∙ c.requires.sound.named_ops in
     extract_known ns c.deref-op-items.result.now named c.loop-op-test.true c.op-item.is c.in-Extract.is
 
-pub overflow_add-at : goal.overflow_add-at
-overflow_add-at c = omega (arith, extract_room (sizes_in c.args.machine.now) c.loop-op.invariant c.loop-op-test.true c.op-item.is c.in-Extract.is, c.size-at.ensures)
+pub split_at-requires : goal.split_at-requires
+split_at-requires c = omega (arith, extract_room (sizes_in c.args.machine.now) c.loop-op.invariant c.loop-op-test.true c.op-item.is c.in-Extract.is, c.size.ensures)
+
+pub put-requires : goal.put-requires
+put-requires c =
+    let ns : List ℕ = sizes_in c.args.machine.now in
+    let named = ap (λ os. every (named_op ns) (map op_of os)) c.deref-op-items.ensures.value ∙ c.requires.sound.named_ops in
+    record {
+      known = extract_known ns c.deref-op-items.result.now named c.loop-op-test.true c.op-item.is c.in-Extract.is;
+      there = omega (arith, c.requires.there, c.loop-op.auto.heads);
+      long = omega (arith, c.split_at.ensures.front_len, c.size.ensures);
+    }
 
 pub assign-requires : goal.assign-requires
 assign-requires c =
@@ -49,11 +46,11 @@ loop-op-preserved c =
     let ns : List ℕ = sizes_in c.args.machine.now in
     elim c.match-op.branch [
       | in-Extract w ↦
-          extracted ns c.loop-op.invariant c.loop-op-test.true c.op-item.is w.in-Extract.is w.at-is w.size-at.ensures
-          (ap (symbols_in c.args.machine.now) w.heads-is ∙ w.put.ensures
-          ∙ ap (λ bs. set (symbols_in c.args.machine.now c.loop-op.heads) w.in-Extract.h (take (get_or ns w.in-Extract.h 0) bs)) (take_rest c.args.part.now c.loop-op.at))
+          extracted ns c.loop-op.invariant c.loop-op-test.true c.op-item.is w.in-Extract.is w.size.ensures w.split_at.ensures.front w.split_at.ensures.back (ap (λ (r : Bor (List ℕ)). r.now) w.rest-is)
+          (ap (symbols_in c.args.machine.now) w.heads-is ∙ w.put.ensures)
       | in-Assign w ↦
-          assigned ns c.loop-op.invariant c.loop-op-test.true c.op-item.is w.in-Assign.is w.at-is (ap (symbols_in c.args.machine.now) w.heads-is ∙ w.assign.ensures)
+          assigned ns c.loop-op.invariant c.loop-op-test.true c.op-item.is w.in-Assign.is (ap (λ (r : Bor (List ℕ)). r.now) w.rest-is)
+          (ap (symbols_in c.args.machine.now) w.heads-is ∙ w.assign.ensures)
     ]
 
 pub returns : goal.returns

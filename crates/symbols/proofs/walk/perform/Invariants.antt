@@ -7,5 +7,4 @@ use Rattle.symbols.proofs.walk.perform.Given as goal
 
 abbrev pub invariant-loop-op : goal.invariant-loop-op
 invariant-loop-op l =
-    Going (sizes_in l.machine) (run_ops (sizes_in l.machine) (state_of l.state).ops l.part (symbols_in l.machine l.initial.heads))
-    (symbols_in l.machine l.heads) l.op-items l.part l.op-index l.at
+    Going (sizes_in l.machine) (run_ops (sizes_in l.machine) (state_of l.state).ops l.part (symbols_in l.machine l.initial.heads)) (symbols_in l.machine l.heads) l.op-items l.rest l.op-index
