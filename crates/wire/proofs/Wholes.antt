@@ -3,35 +3,37 @@ use Rattle.std.proofs.Common.{◌≡◌, ℕ, suc, ◌+◌, ◌-◌, ◌<◌, �
 use Rattle.std.proofs.lemmas.List.{drop_all, drop_more, length-drop, length-take-le}
 use Rattle.std.proofs.lemmas.Result.{err_from_is_err_and}
 use Rattle.std.proofs.lemmas.Bool.{le-leb, lt-leb}
-use Rattle.model.specs.Parser.{Parser}
 use Rattle.model.specs.Request as M
 use Rattle.model.specs.Request.{garbled, parse, compare}
 use Rattle.format.specs.Read.{Read, got}
 use Rattle.format.specs.Format.{read_request, whole, too_long, asked_from}
-use Rattle.scan.specs.Reads.{Took, Failed, ceased, no_memory}
+use Rattle.scan.specs.Reads.{Place, Took, Stopped, Failed, ceased, no_memory}
 use Rattle.scan.specs.declared.fault.Fault.{Fault}
 use Rattle.scan.specs.declared.fault.Fault.TheVariants.{Memory, Garbled}
 use Rattle.wire.specs.Asked.{Stands, Unasked}
 use Rattle.wire.specs.declared.request.Request.{Request}
 use Rattle.wire.specs.declared.request.Request.TheVariants.{Parse, Compare}
 
-module _ {X : Type 0} (means : X → M.Request → Type 0) (bytes : List ℕ) {r : Read M.Request} {x : X} {next : ℕ} (t : Took r means bytes x next) where
-  pub whole_took : length bytes ≤ next → means x (whole (length bytes) r)
+module _ {X : Type 0} (means : X → M.Request → Type 0) {r : Read M.Request} {old now : Place} {x : X} (t : Took r means old x now) where
+  pub whole_took : now.at ≡ length now.bytes → means x (whole (length old.bytes) r)
   whole_took l =
-      let all : r ≡ got t.value [] = t.reads ∙ ap (got t.value) (drop_all next bytes l) in
-      subst (means x) (sym (ap (whole (length bytes)) all)) t.meant
+      let all : r ≡ got t.value [] = t.reads ∙ ap (got t.value) (drop_all now.at now.bytes (omega arith)) in
+      subst (means x) (sym (ap (whole (length old.bytes)) all)) t.meant
 
-  pub left_over : next < length bytes → whole (length bytes) r ≡ garbled next
+  pub left_over : now.at < length now.bytes → whole (length old.bytes) r ≡ garbled now.at
   left_over l =
-      let more : r ≡ got t.value (get_or bytes next 0 ∷ drop (next + 1) bytes) = t.reads ∙ ap (got t.value) (drop_more bytes next 0 l) in
-      let off : length bytes - suc (length (drop (next + 1) bytes)) ≡ next = omega (arith, length-drop (next + 1) bytes) in
-      ap (whole (length bytes)) more ∙ ap garbled off
+      let more : r ≡ got t.value (get_or now.bytes now.at 0 ∷ drop (now.at + 1) now.bytes) = t.reads ∙ ap (got t.value) (drop_more now.bytes now.at 0 l) in
+      let off : length old.bytes - suc (length (drop (now.at + 1) now.bytes)) ≡ now.at = omega (arith, length-drop (now.at + 1) now.bytes, ap length t.same) in
+      ap (whole (length old.bytes)) more ∙ ap garbled off
 
-pub whole_failed : (bytes : List ℕ) {r : Read M.Request} {e : Fault} → Failed r bytes e → Unasked (whole (length bytes) r) e
-whole_failed bytes (ceased {k} u) =
+failed_whole : (bytes : List ℕ) {r : Read M.Request} {e : Fault} → Failed r bytes e → Unasked (whole (length bytes) r) e
+failed_whole bytes (ceased {k} u) =
     let off : length bytes - length (drop k bytes) ≡ k = omega (arith, length-drop k bytes, u.within) in
     ap (whole (length bytes)) u.reads ∙ ap garbled off
-whole_failed bytes no_memory = tt
+failed_whole bytes no_memory = tt
+
+pub whole_stopped : {r : Read M.Request} {old new : Place} {e : Fault} → Stopped r old new e → Unasked (whole (length old.bytes) r) e
+whole_stopped {old = old} u = failed_whole old.bytes u.why
 
 -- the exit of a `?`
 pub unasked : {X : Type 0} (P : X → Type 0) (q : M.Request) (e : Fault) (res : Result X Fault) → IsErrAnd res (λ y. y ≡ e) → Unasked q e → MatchResult res P (Unasked q)
@@ -59,8 +61,3 @@ cut_whole bytes l = long bytes l ∙ ap (λ n. too_long (whole n (read_request (
 pub cut_stands : (r : Request) (q : M.Request) → Stands r q → too_long q ≡ garbled 1048576
 cut_stands (Parse r) q s = ap too_long s.is
 cut_stands (Compare r) q s = ap too_long s.is
-
--- a request to compare, from its numbers as they were read
-pub same_compare : (p q : Parser) (i i' j j' w w' m m' : ℕ) → i ≡ i' → j ≡ j' → w ≡ w' → m ≡ m'
-    → compare (record { first = p; second = q; first_state = i'; second_state = j'; work = w'; room = m' }) ≡ compare (record { first = p; second = q; first_state = i; second_state = j; work = w; room = m })
-same_compare p q i i' j j' w w' m m' a b c d = cc

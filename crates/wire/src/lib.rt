@@ -1,5 +1,5 @@
 // Bytes to requests. Read list, then parser, then request.
-#![tactic(auto)]
+#![tactic(auto, using(scan::proofs::Chain::exits))]
 
 mod list;
 mod parser;

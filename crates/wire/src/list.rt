@@ -1,43 +1,53 @@
-// Lists: how many elements, as a number of two bytes, and then these.
-ghost use Rattle.std.specs.Prelude.{◌≡◌, IfOk, vec_items};
+// What can be read from bytes, and lists of it: how many elements, as a number of two bytes, and then these.
+ghost use Rattle.std.specs.Prelude.{◌≡◌, List, ℕ, IfOk, vec_items};
 ghost use Rattle.std.specs.Option.{option_map};
-ghost use Rattle.wire.specs.Kept.{appended};
+ghost use Rattle.format.specs.Read.{Read, read_counted};
+ghost use Rattle.scan.specs.Reads.{Reads};
+ghost use Rattle.wire.specs.Kept.{Each, EachKept, appended};
 
-use std::alloc::AllocError;
+use scan::{Fault, Reader};
+use std::alloc::{AllocError, Global};
 
-// All elements, each read by `$read`.
-macro_rules! listed {
-    ($read:ident, $heap:ident, $bytes:ident, $at:ident) => {{
-        let (count, mut next) = read_u16($bytes, $at)?;
-        let mut items = Vec::new($heap);
-        for _ in 0..count {
-            let (item, after) = $read($heap, $bytes, next)?;
-            items.push(item)?;
-            next = after;
-        }
-        Ok((items, next))
-    }};
+// What the format's definition reads, and what a value that was read means.
+pub(crate) trait FromBytes: Drop {
+    ghost Meaning: { Type 0 };
+
+    ghost read_by: { List ℕ → Read Meaning };
+
+    ghost means: { Self → Meaning → Type 0 };
+
+    fn read(heap: Global, reader: &mut Reader) -> Result<Self, Fault>
+        ensures { Reads read_by means reader.old reader.new result };
+}
+
+// All elements.
+pub(crate) fn read_list<T: FromBytes>(heap: Global, reader: &mut Reader) -> Result<Vec<T>, Fault>
+    ensures { Reads (read_counted T.read_by) (Each T.means) reader.old reader.new result }
+{
+    let count = reader.u16()?;
+    let mut items = Vec::new(heap);
+    for _ in 0..count {
+        items.push(T::read(heap, reader)?)?;
+    }
+    Ok(items)
 }
 
 // The same of elements that may not have been kept: then no list is.
-macro_rules! kept {
-    ($read:ident, $heap:ident, $bytes:ident, $at:ident) => {{
-        let (count, mut next) = read_u16($bytes, $at)?;
-        let mut items = Some(Vec::new($heap));
-        for _ in 0..count {
-            let (item, after) = $read($heap, $bytes, next)?;
-            items = append(items, item)?;
-            next = after;
-        }
-        Ok((items, next))
-    }};
+pub(crate) fn read_kept<T: Drop>(heap: Global, reader: &mut Reader) -> Result<Option<Vec<T>>, Fault>
+where
+    Option<T>: FromBytes,
+    ensures { Reads (read_counted ⟦<Option<T> as FromBytes>⟧.read_by) (EachKept ⟦<Option<T> as FromBytes>⟧.means) reader.old reader.new result }
+{
+    let count = reader.u16()?;
+    let mut items = Some(Vec::new(heap));
+    for _ in 0..count {
+        items = append(items, <Option<T>>::read(heap, reader)?)?;
+    }
+    Ok(items)
 }
 
-pub(crate) use kept;
-pub(crate) use listed;
-
 // One more element, where all were kept.
-pub fn append<T: Drop>(list: Option<Vec<T>>, item: Option<T>) -> Result<Option<Vec<T>>, AllocError>
+fn append<T: Drop>(list: Option<Vec<T>>, item: Option<T>) -> Result<Option<Vec<T>>, AllocError>
     ensures { IfOk result (λ o. option_map vec_items o ≡ appended (option_map vec_items list) item) }
 {
     let (Some(mut items), Some(item)) = (list, item) else {

@@ -1,89 +1,104 @@
 // A parser and its parts, in the order of the format.
-ghost use Rattle.std.specs.Prelude.{◌≡◌, ℕ, ◌≤◌, List, map, length, drop, vec_items};
+ghost use Rattle.std.specs.Prelude.{◌≡◌, ℕ, List, map, vec_items};
 ghost use Rattle.model.specs.Parser as M;
 ghost use Rattle.model.specs.Refusal.{every, shallow, shallow_op, shallow_state};
-ghost use Rattle.syntax.specs.View.{expr_of, op_of, target_of, pattern_of, case_of, state_of, parser_of, store_of};
-ghost use Rattle.format.specs.Read.{read_number, read_counted, read_row};
-ghost use Rattle.format.specs.Format.{read_expr, read_op, read_target, read_pattern, read_case, read_state, read_parser, read_store};
-ghost use Rattle.scan.specs.Reads.{Reads, Is, Within};
-ghost use Rattle.wire.specs.Kept.{Each, EachWithin, shallow_parser};
+ghost use Rattle.syntax.specs.View.{expr_of, op_of, target_of, pattern_of, case_of, state_of, parser_of};
+ghost use Rattle.format.specs.Read.{read_number, read_row};
+ghost use Rattle.format.specs.Format.{read_expr, read_op, read_target, read_pattern, read_case, read_state, read_parser};
+ghost use Rattle.scan.specs.Reads.{Is, Within};
+ghost use Rattle.wire.specs.Kept.{shallow_parser};
 
-use crate::list::{append, kept, listed};
-use scan::{Fault, read_expr, read_row, read_u8, read_u16};
+use crate::list::{FromBytes, read_kept, read_list};
+use scan::{Fault, Reader};
 use std::alloc::Global;
 use syntax::{Case, Expr, Op, Parser, Pattern, State, Target};
 
 // At most 16 expressions in one another are kept: 15 below the first.
 const DEPTH: u8 = 15;
 
+// How many bits a header has.
+impl FromBytes for u16 {
+    ghost Meaning = { ℕ };
+
+    ghost read_by = { read_number 2 };
+
+    ghost means = { Is (λ n. n) };
+
+    fn read(_: Global, reader: &mut Reader) -> Result<u16, Fault> {
+        reader.u16()
+    }
+}
+
+// What is in a header.
+impl FromBytes for Vec<u8> {
+    ghost Meaning = { List ℕ };
+
+    ghost read_by = { read_row 2 };
+
+    ghost means = { Is vec_items };
+
+    fn read(heap: Global, reader: &mut Reader) -> Result<Vec<u8>, Fault> {
+        reader.kept_row(heap, 2)
+    }
+}
+
 // Where a state or a case leads.
-fn read_target(bytes: &[u8], at: usize) -> Result<(Target, usize), Fault>
-    requires within { at ≤ length bytes.now }
-    ensures { Reads (read_target (drop at bytes.now)) (Is target_of) bytes.now result }
-{
-    let (tag, after) = read_u8(bytes, at)?;
-    match tag {
-        0 => {
-            let (state, next) = read_u16(bytes, after)?;
-            Ok((Target::State(state), next))
+impl FromBytes for Target {
+    ghost Meaning = { M.Target };
+
+    ghost read_by = { read_target };
+
+    ghost means = { Is target_of };
+
+    fn read(_: Global, reader: &mut Reader) -> Result<Target, Fault> {
+        match reader.tag(3)? {
+            0 => Ok(Target::State(reader.u16()?)),
+            1 => Ok(Target::Accept),
+            _ => Ok(Target::Reject),
         }
-        1 => Ok((Target::Accept, after)),
-        2 => Ok((Target::Reject, after)),
-        _ => Err(Fault::Garbled(at)),
     }
 }
 
-fn read_pattern(heap: Global, bytes: &[u8], at: usize) -> Result<(Pattern, usize), Fault>
-    requires within { at ≤ length bytes.now }
-    ensures { Reads (read_pattern (drop at bytes.now)) (Is pattern_of) bytes.now result }
-{
-    let (tag, after) = read_u8(bytes, at)?;
-    match tag {
-        0 => {
-            let (bits, next) = read_row(heap, bytes, after, 2)?;
-            Ok((Pattern::Exactly(bits), next))
+impl FromBytes for Pattern {
+    ghost Meaning = { M.Pattern };
+
+    ghost read_by = { read_pattern };
+
+    ghost means = { Is pattern_of };
+
+    fn read(heap: Global, reader: &mut Reader) -> Result<Pattern, Fault> {
+        match reader.tag(2)? {
+            0 => Ok(Pattern::Exactly(reader.kept_row(heap, 2)?)),
+            _ => Ok(Pattern::Any),
         }
-        1 => Ok((Pattern::Any, after)),
-        _ => Err(Fault::Garbled(at)),
     }
 }
 
-fn read_patterns(heap: Global, bytes: &[u8], at: usize) -> Result<(Vec<Pattern>, usize), Fault>
-    requires within { at ≤ length bytes.now }
-    ensures { Reads (read_counted read_pattern (drop at bytes.now)) (Each pattern_of) bytes.now result }
-{
-    listed!(read_pattern, heap, bytes, at)
-}
+impl FromBytes for Case {
+    ghost Meaning = { M.Case };
 
-fn read_case(heap: Global, bytes: &[u8], at: usize) -> Result<(Case, usize), Fault>
-    requires within { at ≤ length bytes.now }
-    ensures { Reads (read_case (drop at bytes.now)) (Is case_of) bytes.now result }
-{
-    let (patterns, middle) = read_patterns(heap, bytes, at)?;
-    let (target, next) = read_target(bytes, middle)?;
-    Ok((Case { patterns, target }, next))
-}
+    ghost read_by = { read_case };
 
-fn read_cases(heap: Global, bytes: &[u8], at: usize) -> Result<(Vec<Case>, usize), Fault>
-    requires within { at ≤ length bytes.now }
-    ensures { Reads (read_counted read_case (drop at bytes.now)) (Each case_of) bytes.now result }
-{
-    listed!(read_case, heap, bytes, at)
+    ghost means = { Is case_of };
+
+    fn read(heap: Global, reader: &mut Reader) -> Result<Case, Fault> {
+        let patterns = read_list(heap, reader)?;
+        let target = Target::read(heap, reader)?;
+        Ok(Case { patterns, target })
+    }
 }
 
 // A select key, or an expression that is assigned.
-fn read_key(heap: Global, bytes: &[u8], at: usize) -> Result<(Option<Expr>, usize), Fault>
-    requires within { at ≤ length bytes.now }
-    ensures { Reads (read_expr (drop at bytes.now)) (Within expr_of shallow) bytes.now result }
-{
-    read_expr(heap, bytes, at, DEPTH)
-}
+impl FromBytes for Option<Expr> {
+    ghost Meaning = { M.Expr };
 
-fn read_keys(heap: Global, bytes: &[u8], at: usize) -> Result<(Option<Vec<Expr>>, usize), Fault>
-    requires within { at ≤ length bytes.now }
-    ensures { Reads (read_counted read_expr (drop at bytes.now)) (EachWithin expr_of shallow) bytes.now result }
-{
-    kept!(read_key, heap, bytes, at)
+    ghost read_by = { read_expr };
+
+    ghost means = { Within expr_of shallow };
+
+    fn read(heap: Global, reader: &mut Reader) -> Result<Option<Expr>, Fault> {
+        reader.expr(heap, DEPTH)
+    }
 }
 
 // An assignment of an expression that was kept.
@@ -93,30 +108,23 @@ fn assign(header: u16, value: Option<Expr>) -> Option<Op>
     Some(Op::Assign(header, value?))
 }
 
-fn read_op(heap: Global, bytes: &[u8], at: usize) -> Result<(Option<Op>, usize), Fault>
-    requires within { at ≤ length bytes.now }
-    ensures { Reads (read_op (drop at bytes.now)) (Within op_of shallow_op) bytes.now result }
-{
-    let (tag, after) = read_u8(bytes, at)?;
-    match tag {
-        0 => {
-            let (header, next) = read_u16(bytes, after)?;
-            Ok((Some(Op::Extract(header)), next))
-        }
-        1 => {
-            let (header, middle) = read_u16(bytes, after)?;
-            let (value, next) = read_key(heap, bytes, middle)?;
-            Ok((assign(header, value), next))
-        }
-        _ => Err(Fault::Garbled(at)),
-    }
-}
+impl FromBytes for Option<Op> {
+    ghost Meaning = { M.Op };
 
-fn read_ops(heap: Global, bytes: &[u8], at: usize) -> Result<(Option<Vec<Op>>, usize), Fault>
-    requires within { at ≤ length bytes.now }
-    ensures { Reads (read_counted read_op (drop at bytes.now)) (EachWithin op_of shallow_op) bytes.now result }
-{
-    kept!(read_op, heap, bytes, at)
+    ghost read_by = { read_op };
+
+    ghost means = { Within op_of shallow_op };
+
+    fn read(heap: Global, reader: &mut Reader) -> Result<Option<Op>, Fault> {
+        match reader.tag(2)? {
+            0 => Ok(Some(Op::Extract(reader.u16()?))),
+            _ => {
+                let header = reader.u16()?;
+                let value = <Option<Expr>>::read(heap, reader)?;
+                Ok(assign(header, value))
+            }
+        }
+    }
 }
 
 // A state of which all was kept.
@@ -126,7 +134,7 @@ fn state(
     cases: Vec<Case>,
     otherwise: Target,
 ) -> Option<State>
-    ensures { (os : List M.Op) (es : List M.Expr) → EachWithin op_of shallow_op ops os → EachWithin expr_of shallow keys es → Within state_of shallow_state result (record { ops = os; keys = es; cases = map case_of cases.items; otherwise = target_of otherwise }) }
+    ensures { (os : List M.Op) (es : List M.Expr) → Within (λ v. map op_of v.items) (every shallow_op) ops os → Within (λ v. map expr_of v.items) (every shallow) keys es → Within state_of shallow_state result (record { ops = os; keys = es; cases = map case_of cases.items; otherwise = target_of otherwise }) }
 {
     let (ops, keys) = (ops?, keys?);
     Some(State {
@@ -137,42 +145,25 @@ fn state(
     })
 }
 
-fn read_state(heap: Global, bytes: &[u8], at: usize) -> Result<(Option<State>, usize), Fault>
-    requires within { at ≤ length bytes.now }
-    ensures { Reads (read_state (drop at bytes.now)) (Within state_of shallow_state) bytes.now result }
-{
-    let (ops, at) = read_ops(heap, bytes, at)?;
-    let (keys, at) = read_keys(heap, bytes, at)?;
-    let (cases, at) = read_cases(heap, bytes, at)?;
-    let (otherwise, next) = read_target(bytes, at)?;
-    Ok((state(ops, keys, cases, otherwise), next))
-}
+impl FromBytes for Option<State> {
+    ghost Meaning = { M.State };
 
-fn read_states(heap: Global, bytes: &[u8], at: usize) -> Result<(Option<Vec<State>>, usize), Fault>
-    requires within { at ≤ length bytes.now }
-    ensures { Reads (read_counted read_state (drop at bytes.now)) (EachWithin state_of shallow_state) bytes.now result }
-{
-    kept!(read_state, heap, bytes, at)
-}
+    ghost read_by = { read_state };
 
-// How many bits each header has.
-fn read_sizes(heap: Global, bytes: &[u8], at: usize) -> Result<(Vec<u16>, usize), Fault>
-    requires within { at ≤ length bytes.now }
-    ensures { Reads (read_counted (read_number 2) (drop at bytes.now)) (Is vec_items) bytes.now result }
-{
-    let (count, mut next) = read_u16(bytes, at)?;
-    let mut items = Vec::new(heap);
-    for _ in 0..count {
-        let (item, after) = read_u16(bytes, next)?;
-        items.push(item)?;
-        next = after;
+    ghost means = { Within state_of shallow_state };
+
+    fn read(heap: Global, reader: &mut Reader) -> Result<Option<State>, Fault> {
+        let ops = read_kept(heap, reader)?;
+        let keys = read_kept(heap, reader)?;
+        let cases = read_list(heap, reader)?;
+        let otherwise = Target::read(heap, reader)?;
+        Ok(state(ops, keys, cases, otherwise))
     }
-    Ok((items, next))
 }
 
 // A parser of which all was kept.
 fn parser(sizes: Vec<u16>, states: Option<Vec<State>>) -> Option<Parser>
-    ensures { (qs : List M.State) → EachWithin state_of shallow_state states qs → Within parser_of shallow_parser result (record { sizes = sizes.items; states = qs }) }
+    ensures { (qs : List M.State) → Within (λ v. map state_of v.items) (every shallow_state) states qs → Within parser_of shallow_parser result (record { sizes = sizes.items; states = qs }) }
 {
     Some(Parser {
         sizes,
@@ -180,28 +171,17 @@ fn parser(sizes: Vec<u16>, states: Option<Vec<State>>) -> Option<Parser>
     })
 }
 
-// A parser; none is kept where an expression in it is nested too deep.
-pub fn read_parser(heap: Global, bytes: &[u8], at: usize) -> Result<(Option<Parser>, usize), Fault>
-    requires within { at ≤ length bytes.now }
-    ensures { Reads (read_parser (drop at bytes.now)) (Within parser_of shallow_parser) bytes.now result }
-{
-    let (sizes, middle) = read_sizes(heap, bytes, at)?;
-    let (states, next) = read_states(heap, bytes, middle)?;
-    Ok((parser(sizes, states), next))
-}
+// None is kept where an expression in it is nested too deep.
+impl FromBytes for Option<Parser> {
+    ghost Meaning = { M.Parser };
 
-// What is in a header.
-fn read_header(heap: Global, bytes: &[u8], at: usize) -> Result<(Vec<u8>, usize), Fault>
-    requires within { at ≤ length bytes.now }
-    ensures { Reads (read_row 2 (drop at bytes.now)) (Is vec_items) bytes.now result }
-{
-    read_row(heap, bytes, at, 2)
-}
+    ghost read_by = { read_parser };
 
-// What is in all headers.
-pub fn read_store(heap: Global, bytes: &[u8], at: usize) -> Result<(Vec<Vec<u8>>, usize), Fault>
-    requires within { at ≤ length bytes.now }
-    ensures { Reads (read_store (drop at bytes.now)) (Each vec_items) bytes.now result }
-{
-    listed!(read_header, heap, bytes, at)
+    ghost means = { Within parser_of shallow_parser };
+
+    fn read(heap: Global, reader: &mut Reader) -> Result<Option<Parser>, Fault> {
+        let sizes = read_list(heap, reader)?;
+        let states = read_kept(heap, reader)?;
+        Ok(parser(sizes, states))
+    }
 }

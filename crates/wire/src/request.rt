@@ -1,12 +1,12 @@
 // What bytes ask.
-ghost use Rattle.std.specs.Prelude.{◌≡◌, ℕ, ◌≤◌, length, drop, MatchResult};
+ghost use Rattle.std.specs.Prelude.{◌≡◌, length, MatchResult};
+ghost use Rattle.model.specs.Request as M;
 ghost use Rattle.format.specs.Format.{read_parse, read_compare, read_request, asked_from};
 ghost use Rattle.format.specs.Format.{whole as all_read};
-ghost use Rattle.scan.specs.Reads.{Reads};
-ghost use Rattle.wire.specs.Asked.{Stands, Unasked};
+ghost use Rattle.wire.specs.Asked.{Parses, Compares, Stands, Unasked};
 
-use crate::parser::{read_parser, read_store};
-use scan::{Fault, read_number, read_row, read_u8, read_u16};
+use crate::list::{FromBytes, read_list};
+use scan::{Fault, Reader};
 use std::alloc::Global;
 use syntax::Parser;
 
@@ -40,53 +40,64 @@ pub enum Request {
     Compare(Compare),
 }
 
-fn read_parse(heap: Global, bytes: &[u8], at: usize) -> Result<(Request, usize), Fault>
-    requires within { at ≤ length bytes.now }
-    ensures { Reads (read_parse (drop at bytes.now)) Stands bytes.now result }
-{
-    let (parser, at) = read_parser(heap, bytes, at)?;
-    let (headers, at) = read_store(heap, bytes, at)?;
-    let (start, at) = read_u16(bytes, at)?;
-    let (input, next) = read_row(heap, bytes, at, 4)?;
-    let request = Parse {
-        parser,
-        headers,
-        start,
-        input,
-    };
-    Ok((Request::Parse(request), next))
+impl FromBytes for Parse {
+    ghost Meaning = { M.Request };
+
+    ghost read_by = { read_parse };
+
+    ghost means = { Parses };
+
+    fn read(heap: Global, reader: &mut Reader) -> Result<Parse, Fault> {
+        let parser = <Option<Parser>>::read(heap, reader)?;
+        let headers = read_list(heap, reader)?;
+        let start = reader.u16()?;
+        let input = reader.kept_row(heap, 4)?;
+        Ok(Parse {
+            parser,
+            headers,
+            start,
+            input,
+        })
+    }
 }
 
-fn read_compare(heap: Global, bytes: &[u8], at: usize) -> Result<(Request, usize), Fault>
-    requires within { at ≤ length bytes.now }
-    ensures { Reads (read_compare (drop at bytes.now)) Stands bytes.now result }
-{
-    let (first, at) = read_parser(heap, bytes, at)?;
-    let (second, at) = read_parser(heap, bytes, at)?;
-    let (first_start, at) = read_u16(bytes, at)?;
-    let (second_start, at) = read_u16(bytes, at)?;
-    let (work, at) = read_number(bytes, at, 8)?;
-    let (room, next) = read_number(bytes, at, 8)?;
-    let request = Compare {
-        first,
-        second,
-        first_start,
-        second_start,
-        work,
-        room,
-    };
-    Ok((Request::Compare(request), next))
+impl FromBytes for Compare {
+    ghost Meaning = { M.Request };
+
+    ghost read_by = { read_compare };
+
+    ghost means = { Compares };
+
+    fn read(heap: Global, reader: &mut Reader) -> Result<Compare, Fault> {
+        let first = <Option<Parser>>::read(heap, reader)?;
+        let second = <Option<Parser>>::read(heap, reader)?;
+        let first_start = reader.u16()?;
+        let second_start = reader.u16()?;
+        let work = reader.number(8)?;
+        let room = reader.number(8)?;
+        Ok(Compare {
+            first,
+            second,
+            first_start,
+            second_start,
+            work,
+            room,
+        })
+    }
 }
 
-// A request of either kind, at the beginning of the bytes.
-fn read_any(heap: Global, bytes: &[u8]) -> Result<(Request, usize), Fault>
-    ensures { Reads (read_request (drop 0 bytes.now)) Stands bytes.now result }
-{
-    let (tag, after) = read_u8(bytes, 0)?;
-    match tag {
-        0 => read_parse(heap, bytes, after),
-        1 => read_compare(heap, bytes, after),
-        _ => Err(Fault::Garbled(0)),
+impl FromBytes for Request {
+    ghost Meaning = { M.Request };
+
+    ghost read_by = { read_request };
+
+    ghost means = { Stands };
+
+    fn read(heap: Global, reader: &mut Reader) -> Result<Request, Fault> {
+        match reader.tag(2)? {
+            0 => Ok(Request::Parse(Parse::read(heap, reader)?)),
+            _ => Ok(Request::Compare(Compare::read(heap, reader)?)),
+        }
     }
 }
 
@@ -94,10 +105,9 @@ fn read_any(heap: Global, bytes: &[u8]) -> Result<(Request, usize), Fault>
 fn read_whole(heap: Global, bytes: &[u8]) -> Result<Request, Fault>
     ensures { MatchResult result (λ q. Stands q (all_read (length bytes.now) (read_request bytes.now))) (Unasked (all_read (length bytes.now) (read_request bytes.now))) }
 {
-    let (request, next) = read_any(heap, bytes)?;
-    if next < bytes.len() {
-        return Err(Fault::Garbled(next));
-    }
+    let mut reader = Reader::new(bytes);
+    let request = Request::read(heap, &mut reader)?;
+    reader.end()?;
     Ok(request)
 }
 
