@@ -1,12 +1,10 @@
 -- Bytes written one after another: each step of a loop, and things in a row.
-use Rattle.std.proofs.Common.{◌≡◌, ℕ, zero, suc, ◌+◌, ◌-◌, ◌*◌, ◌/◌, ◌^◌, ◌<◌, ◌≤◌, List, [], ◌∷◌, ◌++◌, length, get_or, drop, sym, refl, ap, ◌∙◌, add-one, arith}
-use lib.Bits.{bit_and}
+use Rattle.std.proofs.Common.{◌≡◌, ℕ, zero, suc, ◌+◌, ◌-◌, ◌<◌, ◌≤◌, List, [], ◌∷◌, ◌++◌, length, get_or, drop, sym, refl, ap, ◌∙◌, add-one, arith}
 use Rattle.std.proofs.lemmas.List.{append_assoc, append-nil}
 use Rattle.format.specs.Written.{number, many, row, store}
 use Rattle.reply.specs.Appends.{Appends}
 use Rattle.reply.specs.Front.{front_row, past_row, front_rows, past_rows, front_store, past_store}
 use Rattle.rows.specs.Row.{bit_in, bits_in}
-use Rattle.reply.proofs.Numbers.{byte_at}
 
 -- a byte was pushed
 pub pushed : (before after : List ℕ) (x : ℕ) (rest : List ℕ) → after ≡ before ++ x ∷ [] → after ++ rest ≡ before ++ x ∷ rest
@@ -23,19 +21,6 @@ whole f a b p = sym (append-nil b) ∙ p []
 -- an answer's number, and its values
 pub tagged : (tag : ℕ) (f : List ℕ → List ℕ) (a b c bytes : List ℕ) → Appends (number 1 tag) a b → Appends f b c → number 1 tag (f []) ≡ bytes → c ≡ a ++ bytes
 tagged tag f a b c bytes p q e = whole (λ rest. number 1 tag (f rest)) a c (both (number 1 tag) f a b c p q) ∙ ap (λ l. a ++ l) e
-
--- one byte more of a number: k bytes were to come
-pub number_more : (a b c : List ℕ) (w v k : ℕ) → 0 < k → c ≡ b ++ bit_and (v / 2 ^ (8 * (k - 1))) 255 ∷ []
-    → ((rest : List ℕ) → b ++ number k v rest ≡ a ++ number w v rest) → (rest : List ℕ) → c ++ number (k - 1) v rest ≡ a ++ number w v rest
-number_more a b c w v k l e so_far rest =
-    let s : k ≡ suc (k - 1) = omega arith in
-    pushed b c (bit_and (v / 2 ^ (8 * (k - 1))) 255) (number (k - 1) v rest) e
-    ∙ ap (λ x. b ++ x ∷ number (k - 1) v rest) (byte_at v (k - 1))
-    ∙ ap (λ n. b ++ number n v rest) (sym s)
-    ∙ so_far rest
-
-pub number_all : (a b : List ℕ) (w v k : ℕ) → k ≤ 0 → ((rest : List ℕ) → b ++ number k v rest ≡ a ++ number w v rest) → Appends (number w v) a b
-number_all a b w v k l so_far rest = let z : 0 ≡ k = omega arith in ap (λ n. b ++ number n v rest) z ∙ so_far rest
 
 -- no bit of a row of n, and one more
 pub bits_none : (a ws : List ℕ) (n : ℕ) (rest : List ℕ) → a ++ (bits_in ws 0 (n - 0) ++ rest) ≡ a ++ (bits_in ws 0 n ++ rest)
@@ -56,16 +41,14 @@ length_bits ws k zero = refl
 length_bits ws k (suc n) = ap suc (length_bits ws (suc k) n)
 
 -- all bits of a row, after how many there are
-pub row_all : (a b c part ws : List ℕ) (w n k : ℕ) → n ≡ get_or part 0 0 → ws ≡ drop 1 part → n ≤ k → Appends (number w n) a b
-    → ((rest : List ℕ) → c ++ (bits_in ws k (n - k) ++ rest) ≡ b ++ (bits_in ws 0 n ++ rest)) → Appends (row w (front_row part)) a c
-row_all a b c part ws w n k is part_is l counted so_far rest =
+pub row_all : (a b c ws : List ℕ) (w n k : ℕ) → n ≤ k → Appends (number w n) a b
+    → ((rest : List ℕ) → c ++ (bits_in ws k (n - k) ++ rest) ≡ b ++ (bits_in ws 0 n ++ rest)) → Appends (row w (bits_in ws 0 n)) a c
+row_all a b c ws w n k l counted so_far rest =
     let z : 0 ≡ n - k = omega arith in
-    let whole_row : bits_in ws 0 n ≡ front_row part = ap (λ m. bits_in ws 0 m) is ∙ ap (λ v. bits_in v 0 (get_or part 0 0)) part_is in
     ap (λ m. c ++ (bits_in ws k m ++ rest)) z
     ∙ so_far rest
     ∙ counted (bits_in ws 0 n ++ rest)
     ∙ ap (λ m. a ++ number w m (bits_in ws 0 n ++ rest)) (sym (length_bits ws 0 n))
-    ∙ ap (λ bs. a ++ row w bs rest) whole_row
 
 -- the rows of n headers of which i were written
 pub record Stored (before : List ℕ) (part : List ℕ) (n i : ℕ) (now_bytes now_part : List ℕ) : Type 0 where
@@ -77,13 +60,14 @@ stored_none before part n =
     let z : n - 0 ≡ n = omega arith in
     record { bytes = λ rest. ap (λ m. before ++ many (row 2) (front_rows m part) rest) z; after = ap (λ m. past_rows m part) z }
 
-pub stored_more : (before part : List ℕ) (n i : ℕ) (b p c q : List ℕ) → i < n → Appends (row 2 (front_row p)) b c → q ≡ past_row p → Stored before part n i b p → Stored before part n (i + 1) c q
-stored_more before part n i b p c q l wrote is so_far =
+pub stored_more : (before part : List ℕ) (n i : ℕ) (b p c q : List ℕ) {bs : List ℕ} → i < n → bs ≡ front_row p → Appends (row 2 bs) b c → q ≡ past_row p → Stored before part n i b p → Stored before part n (i + 1) c q
+stored_more before part n i b p c q l row_is wrote is so_far =
     let s : suc (n - (i + 1)) ≡ n - i = omega arith in
     record {
       bytes = λ rest.
           ap (λ v. c ++ many (row 2) (front_rows (n - (i + 1)) v) rest) is
           ∙ wrote (many (row 2) (front_rows (n - (i + 1)) (past_row p)) rest)
+          ∙ ap (λ bs. b ++ row 2 bs (many (row 2) (front_rows (n - (i + 1)) (past_row p)) rest)) row_is
           ∙ ap (λ m. b ++ many (row 2) (front_rows m p) rest) s
           ∙ so_far.bytes rest;
       after = ap (past_rows (n - (i + 1))) is ∙ ap (λ m. past_rows m p) s ∙ so_far.after;

@@ -35,14 +35,8 @@ digits_more b c ws whole n k x l is e so_far =
     ∙ ap (λ m. b ++ digits (bits_in ws k m)) (sym s)
     ∙ so_far
 
-pub digits_all : (a c part ws : List ℕ) (n k : ℕ) → n ≡ get_or part 0 0 → ws ≡ drop 1 part → n ≤ k → c ++ digits (bits_in ws k (n - k)) ≡ a ++ digits (bits_in ws 0 n) → c ≡ a ++ digits (front_row part)
-digits_all a c part ws n k is part_is l so_far =
-    let z : 0 ≡ n - k = omega arith in
-    sym (append-nil c)
-    ∙ ap (λ m. c ++ digits (bits_in ws k m)) z
-    ∙ so_far
-    ∙ ap (λ m. a ++ digits (bits_in ws 0 m)) is
-    ∙ ap (λ v. a ++ digits (bits_in v 0 (get_or part 0 0))) part_is
+pub digits_all : (a c ws : List ℕ) (n k : ℕ) → n ≤ k → c ++ digits (bits_in ws k (n - k)) ≡ a ++ digits (bits_in ws 0 n) → c ≡ a ++ digits (bits_in ws 0 n)
+digits_all a c ws n k l so_far = let z : 0 ≡ n - k = omega arith in sym (append-nil c) ∙ ap (λ m. c ++ digits (bits_in ws k m)) z ∙ so_far
 
 -- headers' contents at the front of a part, of which the last `left` are still to be shown
 pub record Listed (part : List ℕ) (left : ℕ) (text rest : List ℕ) : Type 0 where
@@ -87,14 +81,8 @@ module _ (part text rest : List ℕ) (n i : ℕ) (l : n ≤ i) (so_far : Listed 
   listed_after = let z : 0 ≡ n - i = omega arith in ap (λ k. past_rows k rest) z ∙ so_far.after
 
 -- a message that isn't empty
-message_some : (part : List ℕ) → (get_or part 0 0 ≡ 0 → ⊥) → digits (front_row part) ≡ message_text (front_row part)
-message_some part some =
-    let n : ℕ = get_or part 0 0 in
-    let s : n ≡ suc (n - 1) = omega arith in
-    ap (λ m. digits (bits_in (drop 1 part) 0 m)) s ∙ ap (λ m. message_text (bits_in (drop 1 part) 0 m)) (sym s)
-
-pub message_is : (part text : List ℕ) (n : ℕ) → n ≡ get_or part 0 0 → (n ≡ 0 → ⊥) → text ≡ digits (front_row part) → text ≡ message_text (front_row part)
-message_is part text n is some e = e ∙ message_some part (λ z. some (is ∙ z))
+pub message_some : (ws : List ℕ) (n : ℕ) → (n ≡ 0 → ⊥) → digits (bits_in ws 0 n) ≡ message_text (bits_in ws 0 n)
+message_some ws n some = let s : n ≡ suc (n - 1) = omega arith in ap (λ m. digits (bits_in ws 0 m)) s ∙ ap (λ m. message_text (bits_in ws 0 m)) (sym s)
 
 -- the texts of both headers' contents and of the message, which stand one after the other
 abbrev pub unlike_text : List ℕ → List ℕ → List ℕ → ℕ → ℕ → List ℕ

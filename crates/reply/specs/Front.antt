@@ -1,7 +1,12 @@
 -- What stands at the front of a part of the room. Assumes nothing.
 use Rattle.std.specs.Prelude.{ℕ, zero, suc, List, [], ◌∷◌, drop, slice_index}
 use Rattle.model.specs.Parser.{Bits, Store}
-use Rattle.rows.specs.Row.{row_in, row_end}
+use Rattle.rows.specs.Row.{bits_in, row_in, row_end}
+use Rattle.reply.specs.declared.row.Row.{Row}
+
+-- the bits of a row
+abbrev pub row_of : Row → Bits
+row_of r = bits_in r.words.now 0 r.len
 
 abbrev pub front_row : List ℕ → Bits
 front_row part = row_in part 0

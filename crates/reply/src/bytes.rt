@@ -2,11 +2,12 @@
 ghost use Rattle.std.specs.Prelude.{◌≡◌, ℕ, ◌≤◌, ◌++◌, IfOk, OnOk};
 ghost use Rattle.format.specs.Written.{number as number_bytes, row as row_bytes, store as store_bytes, answer as answer_bytes};
 ghost use Rattle.reply.specs.View.{answer_of};
-ghost use Rattle.reply.specs.Front.{front_row, front_store, past_store};
+ghost use Rattle.reply.specs.Front.{front_store, past_store, row_of};
 ghost use Rattle.reply.specs.Appends.{Appends, difference, budget};
 
 use crate::answer::Answer;
-use crate::room::{bit, count, past, past_row};
+use crate::room::Reader;
+use crate::row::Row;
 use std::alloc::{AllocError, Global};
 
 // The bytes of an answer that was given with this room.
@@ -18,7 +19,7 @@ pub fn write_answer(heap: Global, answer: &Answer, room: &[u64]) -> Result<Vec<u
     Ok(out)
 }
 
-// Its number, and then its values.
+// Its number, and then its values: said together for each case, as the definition of an answer's bytes has them.
 fn put_answer(out: &mut Vec<u8>, answer: &Answer, room: &[u64]) -> Result<(), AllocError>
     ensures { OnOk result (out.new.items ≡ out.old.items ++ answer_bytes (answer_of room.now answer.now)) }
 {
@@ -42,7 +43,7 @@ fn put_answer(out: &mut Vec<u8>, answer: &Answer, room: &[u64]) -> Result<(), Al
             room: left,
         } => {
             put_number(out, 1, 3)?;
-            put_difference(out, past(room, at as u64))?;
+            put_difference(out, Reader::new(room, at))?;
             put_budget(out, work, left)
         }
         Answer::Neither { work, room: left } => {
@@ -61,50 +62,44 @@ fn put_budget(out: &mut Vec<u8>, work: u64, left: u64) -> Result<(), AllocError>
 }
 
 // The headers' contents of both, and the message, which stand there one after the other.
-fn put_difference(out: &mut Vec<u8>, part: &[u64]) -> Result<(), AllocError>
-    ensures { OnOk result (Appends (difference part.now) out.old.items out.new.items) }
+fn put_difference(out: &mut Vec<u8>, mut reader: Reader) -> Result<(), AllocError>
+    ensures { OnOk result (Appends (difference reader.entry) out.old.items out.new.items) }
 {
-    let rest = put_store(out, part)?;
-    let rest = put_store(out, rest)?;
-    put_row(out, 8, rest)
+    put_store(out, &mut reader)?; // of the first
+    put_store(out, &mut reader)?; // of the second
+    put_row(out, 8, &reader.row())
 }
 
-// Headers' contents: how many headers there are, and then a row for each. Hands back what comes after them.
-fn put_store<'a>(out: &mut Vec<u8>, part: &'a [u64]) -> Result<&'a [u64], AllocError>
-    ensures rest { IfOk result (λ rest. rest.now ≡ past_store part.now) }
-    ensures bytes { OnOk result (Appends (store_bytes (front_store part.now)) out.old.items out.new.items) }
+// Headers' contents: how many headers there are, and then a row for each. What a line shows has other heads, commas
+// and digits, so that one walk for both would be longer than the two.
+fn put_store(out: &mut Vec<u8>, reader: &mut Reader) -> Result<(), AllocError>
+    ensures rest { OnOk result (reader.new ≡ past_store reader.old) }
+    ensures bytes { OnOk result (Appends (store_bytes (front_store reader.old)) out.old.items out.new.items) }
 {
-    let n = count(part);
+    let n = reader.number();
     put_number(out, 2, n)?;
-    let mut rest = past(part, 1);
     for _ in 0..n {
-        put_row(out, 2, rest)?;
-        rest = past_row(rest);
+        put_row(out, 2, &reader.row())?;
     }
-    Ok(rest)
+    Ok(())
 }
 
 // A row of bits, one to a byte, after how many there are as a number of so many bytes.
-fn put_row(out: &mut Vec<u8>, width: u32, part: &[u64]) -> Result<(), AllocError>
-    requires narrow { width ≤ 8 }
-    ensures { OnOk result (Appends (row_bytes width (front_row part.now)) out.old.items out.new.items) }
+fn put_row(out: &mut Vec<u8>, width: usize, row: &Row) -> Result<(), AllocError>
+    requires { width ≤ 8 }
+    ensures { OnOk result (Appends (row_bytes width (row_of row.now)) out.old.items out.new.items) }
 {
-    let n = count(part);
-    put_number(out, width, n)?;
-    let words = past(part, 1);
-    for k in 0..n {
-        out.push(bit(words, k))?;
+    put_number(out, width, row.len)?;
+    for k in 0..row.len {
+        out.push(row.bit(k))?;
     }
     Ok(())
 }
 
 // A number of so many bytes, the highest first.
-fn put_number(out: &mut Vec<u8>, width: u32, value: u64) -> Result<(), AllocError>
-    requires narrow { width ≤ 8 }
+fn put_number(out: &mut Vec<u8>, width: usize, value: u64) -> Result<(), AllocError>
+    requires { width ≤ 8 }
     ensures { OnOk result (Appends (number_bytes width value) out.old.items out.new.items) }
 {
-    for k in (0..width).rev() {
-        out.push((value >> (8 * k) & 0xff) as u8)?;
-    }
-    Ok(())
+    out.extend_from_slice(&value.to_be_bytes()[8 - width..])
 }

@@ -1,9 +1,10 @@
-// Answers, as bytes and as a line of text. Read answer, then room, bytes and text.
+// Answers, as bytes and as a line of text. Read answer, then row and room, bytes and text.
 #![tactic(auto)]
 
 mod answer;
 mod bytes;
 mod room;
+mod row;
 #[cfg(test)]
 mod tests;
 mod text;

@@ -1,42 +1,64 @@
-// What stands at the front of a part of the room. Past the room's end all numbers are 0.
+// The room of an answer, read from an offset on. Past its end all numbers are 0.
 ghost use Rattle.std.specs.Prelude.{◌≡◌, ℕ, drop, slice_index};
 ghost use Rattle.rows.specs.Row.{bit_in};
-ghost use Rattle.reply.specs.Front.{past_row};
+ghost use Rattle.reply.specs.Front.{front_row, past_row, row_of};
 
-// The number at the front: how many things come next.
-pub fn count(part: &[u64]) -> u64
-    ensures { result ≡ slice_index part.now 0 }
-{
-    word(part, 0)
+use crate::row::Row;
+use std::marker::Model;
+
+// A clause sees the numbers that are still to be read.
+#[derive(Drop)]
+pub(crate) struct Reader<'a> {
+    rest: &'a [u64],
 }
 
-// What comes after so many numbers.
-pub fn past(part: &[u64], numbers: u64) -> &[u64]
-    ensures { result.now ≡ drop numbers part.now }
-{
-    let end = part.len() as u64;
-    part.split_at(numbers.min(end) as usize).1
+impl<'a> Model for Reader<'a> {
+    ghost use Rattle.std.specs.Prelude.{ℕ, List};
+
+    ghost Value = { List ℕ };
+
+    ghost view = { λ r. r.rest.now };
 }
 
-// What comes after the row at the front.
-pub fn past_row(part: &[u64]) -> &[u64]
-    ensures { result.now ≡ past_row part.now }
-{
-    past(part, 1 + count(part).div_ceil(64))
-}
+impl<'a> Reader<'a> {
+    pub(crate) fn new(room: &'a [u64], at: usize) -> Reader<'a>
+        ensures { result ≡ drop at room.now }
+    {
+        let end = room.len();
+        Reader {
+            rest: room.split_at(at.min(end)).1,
+        }
+    }
 
-// One bit of these numbers, the lowest of the first being bit 0.
-pub fn bit(words: &[u64], k: u64) -> u8
-    ensures { result ≡ bit_in words.now k }
-{
-    (word(words, k / 64) >> (k % 64) & 1) as u8
-}
+    // The number at the front: how many things come next.
+    pub(crate) fn number(&mut self) -> u64
+        ensures value { result ≡ slice_index self.old 0 }
+        ensures rest { self.new ≡ drop 1 self.old }
+    {
+        match self.rest.split_first() {
+            Some((number, rest)) => {
+                self.rest = rest;
+                *number
+            }
+            None => 0,
+        }
+    }
 
-fn word(part: &[u64], k: u64) -> u64
-    ensures { result ≡ slice_index part.now k }
-{
-    match part.get(k as usize) {
-        Some(word) => *word,
-        None => 0,
+    // The row at the front.
+    pub(crate) fn row(&mut self) -> Row<'a>
+        ensures row { row_of result ≡ front_row self.old }
+        ensures rest { self.new ≡ past_row self.old }
+    {
+        let len = self.number();
+        let words = self.rest;
+        self.skip(len.div_ceil(64));
+        Row { len, words }
+    }
+
+    fn skip(&mut self, numbers: u64)
+        ensures { self.new ≡ drop numbers self.old }
+    {
+        let end = self.rest.len() as u64;
+        self.rest = self.rest.split_at(numbers.min(end) as usize).1;
     }
 }

@@ -36,8 +36,8 @@ pub returns-in_ok-put_difference-in-Unlike : goal.returns-in_ok-put_difference-i
 returns-in_ok-put_difference-in-Unlike c =
     let w : ℕ = c.in-Unlike.work in
     let r : ℕ = c.in-Unlike.left in
-    let part : List ℕ = c.past.result.now in
-    let whole_part : difference part (budget w r []) ≡ difference (drop c.in-Unlike.at c.args.room.now) (budget w r []) = ap (λ p. difference p (budget w r [])) c.past.ensures in
+    let part : List ℕ = c.new.result in
+    let whole_part : difference part (budget w r []) ≡ difference (drop c.in-Unlike.at c.args.room.now) (budget w r []) = ap (λ p. difference p (budget w r [])) c.new.ensures in
     IfOk-weaker c.put_budget-in-Unlike.result _ _
     (λ _ q. tagged 3 (λ rest. difference part (budget w r rest)) (vec_items c.args.out.now) (vec_items c.put_number-in-Unlike.new.out) (vec_items c.put_budget-in-Unlike.new.out) _ c.in_ok-put_number-in-Unlike.ensures
     (both (difference part) (budget w r) (vec_items c.put_number-in-Unlike.new.out) (vec_items c.put_difference.new.out) (vec_items c.put_budget-in-Unlike.new.out) c.in_ok-put_difference-in-Unlike.ensures q)

@@ -17,9 +17,9 @@ three part p q a b c d p_is q_is first second message rest =
 
 pub returns : goal.returns
 returns c =
-    let first = c.in_ok-rest.ensures in
-    let second = c.in_ok-rest-2.ensures in
+    let first = c.in_ok-put_store.ensures in
+    let second = c.in_ok-put_store-2.ensures in
     IfOk-weaker c.put_row.result _ _
-    (λ _ message. three c.args.part.now c.in_ok-rest.rest.now c.in_ok-rest-2.rest.now c.args.out.now.items c.put_store.new.out.items c.put_store-2.new.out.items c.put_row.new.out.items first.rest second.rest first.bytes
-    second.bytes message)
+    (λ _ message. three c.args.reader c.put_store.new.reader c.put_store-2.new.reader c.args.out.now.items c.put_store.new.out.items c.put_store-2.new.out.items c.put_row.new.out.items first.rest second.rest first.bytes
+    second.bytes (λ rest. message rest ∙ ap (λ bs. c.put_store-2.new.out.items ++ row 8 bs rest) c.row.ensures.row))
     c.put_row.ensures

@@ -1,10 +1,5 @@
-use Rattle.std.proofs.Common.{vec_items}
-use Rattle.reply.proofs.Appending.{number_more, number_all}
+use Rattle.reply.proofs.Numbers.{number_put}
 use Rattle.reply.proofs.bytes.put_number.Goals as goal
 
-pub loop-k-preserved : goal.loop-k-preserved
-loop-k-preserved c =
-    number_more (vec_items c.args.out.now) (vec_items c.loop-k.out) (vec_items c.push.new.self) c.args.width c.args.value c.loop-k.k c.loop-k-test.true c.in_ok-push.ensures.items c.loop-k.invariant
-
 pub returns : goal.returns
-returns c = number_all (vec_items c.args.out.now) (vec_items c.loop-k.out) c.args.width c.args.value c.loop-k.k c.loop-k-test.false c.loop-k.invariant
+returns c = number_put c.args.width c.args.value c.requires c.extend_from_slice.result c.args.out.now.items c.to_be_bytes.ensures c.extend_from_slice.ensures.items

@@ -3,4 +3,4 @@ use Rattle.reply.proofs.Showing.{Listed}
 use Rattle.reply.proofs.text.store_text.Given as goal
 
 abbrev pub invariant-loop : goal.invariant-loop
-invariant-loop l = Listed l.part (l.n - l.counter) (string_bytes l.text) l.rest
+invariant-loop l = Listed l.fn.reader (l.n - l.counter) (string_bytes l.text) l.reader
