@@ -64,15 +64,12 @@ fn hold(
     ensures wrote { IfSome result (λ n. take n out.new ≡ take at out.old ++ condition_of (symbols_in machine.now heads.now) (map expr_of keys.now) (map pattern_of patterns.now)) }
 {
     let mut next = at;
-    for (i, pattern) in patterns.iter().enumerate() {
-        match pattern {
-            Pattern::Any => {}
-            Pattern::Exactly(bits) => {
-                if (out.len() - next) / 2 < bits.len() {
-                    return None;
-                }
-                next = write_pairs(machine, &keys[i], bits, heads, out, next);
+    for (key, pattern) in keys.iter().zip(patterns.iter()) {
+        if let Pattern::Exactly(bits) = pattern {
+            if (out.len() - next) / 2 < bits.len() {
+                return None;
             }
+            next = write_pairs(machine, key, bits, heads, out, next);
         }
     }
     Some(next)

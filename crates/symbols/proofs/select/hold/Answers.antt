@@ -1,50 +1,54 @@
-use Rattle.std.proofs.Common.{ℕ, ◌+◌, ◌*◌, ◌≤◌, List, length, ap, ◌∙◌, arith}
-use Rattle.std.proofs.lemmas.List.{drop_all}
-use Rattle.model.specs.Refusal.{named_expr, sized_expr}
-use Rattle.model.proofs.Every.{drop_read, every_read}
-use Rattle.syntax.specs.View.{expr_of}
+use Rattle.std.proofs.Common.{◌≡◌, ℕ, ◌+◌, ◌*◌, ◌≤◌, List, ◌++◌, map, length, take, sym, refl, ap, ◌∙◌, subst, ⊎_elim, arith}
+use Rattle.model.specs.Parser.{Store}
+use Rattle.syntax.specs.View.{expr_of, pattern_of}
 use Rattle.machine.specs.View.{sizes_in}
-use Rattle.machine.proofs.Matching.{drop_some}
-use Rattle.symbols.proofs.Conditions.{one_more, as_wide, passes_any, wrote, all_written, room_left}
+use Rattle.machine.proofs.Matching.{as_many}
+use Rattle.symbols.specs.Symbol.{condition_of}
+use Rattle.symbols.specs.View.{symbols_in}
+use Rattle.symbols.proofs.Conditions.{Left, proper, as_wide, passes_any, wrote, all_written, room_left}
 use Rattle.symbols.proofs.select.hold.Goals as goal
-use Rattle.symbols.proofs.select.hold.Goals.{in-Any, in-Exactly+else-out-next}
 
-pub bounds-keys-i : goal.bounds-keys-i
-bounds-keys-i c = one_more _ _ _ _ c.args.keys.now c.args.patterns.now c.loop-i.i c.loop-i.invariant c.loop-i-test.true
+pub loop-key-init : goal.loop-key-init
+loop-key-init c =
+    let ns : List ℕ = sizes_in c.args.machine.now in
+    let s : Store = symbols_in c.args.machine.now c.args.heads.now in
+    let start : List ℕ = take c.args.at c.args.out.now in
+    let whole : List ℕ = start ++ condition_of s (map expr_of c.args.keys.now) (map pattern_of c.args.patterns.now) in
+    let zipped = c.into_iter-key-iterator.ensures.into_iter_gives in
+    let first = ap (λ i. i.a.rest.now) zipped ∙ ap (λ i. i.rest.now) c.zip-key-items.ensures.first ∙ c.iter.ensures.rest in
+    let second = ap (λ i. i.b.rest.now) zipped ∙ ap (λ i. i.rest.now) c.zip-key-items.ensures.second ∙ c.iter-2.ensures.rest in
+    subst (λ xs. Left ns s start c.args.at c.args.out.now whole c.args.at xs c.into_iter-key-iterator.result.b.rest.now) (sym first)
+    (subst (Left ns s start c.args.at c.args.out.now whole c.args.at c.args.keys.now) (sym second)
+    (record { same = refl; kept = refl; named = c.requires.named; sized = c.requires.sized; wide = c.requires.wide; reached = omega arith; room = c.requires.within }))
 
 pub write_pairs-next-requires : goal.write_pairs-next-requires
 write_pairs-next-requires c =
-    let ns : List ℕ = sizes_in c.args.machine.now in
-    let l = one_more _ _ _ _ c.args.keys.now c.args.patterns.now c.loop-i.i c.loop-i.invariant c.loop-i-test.true in
+    let steps = c.in-Some.ensures.steps in
     record {
-      proper = record {
-        named = every_read (named_expr ns) expr_of c.args.keys.now c.requires.named c.loop-i.i l c.index-keys-i.is;
-        sized = every_read (sized_expr ns) expr_of c.args.keys.now c.requires.sized c.loop-i.i l c.index-keys-i.is;
-      };
-      wide = ap length c.deref.ensures.value
-          ∙ as_wide _ _ _ _ c.loop-i.invariant (drop_read _ _ _ l c.index-keys-i.is) (drop_read _ _ _ c.loop-i-test.true c.index-patterns-i.is) c.in-Exactly.is;
+      proper = proper _ _ _ _ c.loop-key.invariant steps.0 steps.1;
+      wide = ap length c.deref.ensures.value ∙ as_wide _ _ _ _ c.loop-key.invariant steps.0 steps.1 c.in-Exactly.is;
       heads = c.requires.heads;
-      room = omega (arith, room_left c.loop-i.next c.len.result (length c.loop-i.out) c.loop-i.invariant.room c.if-out-next.false, c.deref.ensures.len, c.len.ensures);
+      room = omega (arith, room_left c.loop-key.next c.len.result (length c.loop-key.out) c.loop-key.invariant.room c.if-out-next.false, c.deref.ensures.len, c.len.ensures);
     }
 
-pub loop-i-preserved : goal.loop-i-preserved
-loop-i-preserved c =
-    let l = one_more _ _ _ _ c.args.keys.now c.args.patterns.now c.loop-i.i c.loop-i.invariant c.loop-i-test.true in
-    let pats = drop_read _ _ _ c.loop-i-test.true c.index-patterns-i.is in
-    elim c.match-pattern.branch [
-      | in-Any w ↦ passes_any _ _ _ _ c.loop-i.invariant (drop_some c.args.keys.now c.loop-i.i l).1 pats w.in-Any.is w.out-is w.next-is
-      | in-Exactly+else-out-next w ↦
-          let r : c.loop-i.next + 2 * w.len.result ≤ length c.loop-i.out = room_left c.loop-i.next w.len.result (length c.loop-i.out) c.loop-i.invariant.room w.if-out-next.false in
-          wrote _ _ _ _ c.loop-i.invariant (drop_read _ _ _ l w.index-keys-i.is) pats w.in-Exactly.is w.write_pairs-next.ensures.wrote w.deref.ensures.value
-          (omega (arith, w.write_pairs-next.ensures.end))
-          (omega (arith, w.write_pairs-next.ensures.end, w.write_pairs-next.auto.out, w.deref.ensures.len, w.len.ensures))
-          w.out-is w.next-is
-    ]
+pub loop-key-preserved-in-Exactly : goal.loop-key-preserved-in-Exactly
+loop-key-preserved-in-Exactly c =
+    let steps = c.in-Some.ensures.steps in
+    let r : c.loop-key.next + 2 * c.len.result ≤ length c.loop-key.out = room_left c.loop-key.next c.len.result (length c.loop-key.out) c.loop-key.invariant.room c.if-out-next.false in
+    wrote _ _ _ _ c.loop-key.invariant steps.0 steps.1 c.in-Exactly.is c.write_pairs-next.ensures.wrote c.deref.ensures.value (omega (arith, c.write_pairs-next.ensures.end))
+    (omega (arith, c.write_pairs-next.ensures.end, c.write_pairs-next.auto.out, c.deref.ensures.len, c.len.ensures))
+
+pub loop-key-preserved : goal.loop-key-preserved
+loop-key-preserved c =
+    let steps = c.in-Some.ensures.steps in
+    passes_any _ _ _ _ c.loop-key.invariant steps.0 steps.1 c.in_default.is
 
 pub returns : goal.returns
 returns c =
+    let many = as_many (sizes_in c.args.machine.now) c.loop-key.key-iterator.a.rest.now c.loop-key.key-iterator.b.rest.now c.loop-key.invariant.wide in
+    let none : length c.loop-key.key-iterator.b.rest.now ≡ 0 = ⊎_elim (λ p. sym many ∙ p.1.0) (λ p. p.1.0) c.in-None.ensures.steps in
     record {
-      below = c.loop-i.invariant.kept;
-      end = (c.loop-i.invariant.reached, c.loop-i.invariant.room);
-      wrote = all_written _ _ _ _ c.loop-i.invariant (drop_all _ _ c.loop-i-test.false);
+      below = c.loop-key.invariant.kept;
+      end = (c.loop-key.invariant.reached, c.loop-key.invariant.room);
+      wrote = all_written _ _ _ _ c.loop-key.invariant none;
     }

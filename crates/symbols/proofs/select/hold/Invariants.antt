@@ -1,4 +1,4 @@
-use Rattle.std.proofs.Common.{◌++◌, map, take, drop}
+use Rattle.std.proofs.Common.{◌++◌, map, take}
 use Rattle.syntax.specs.View.{expr_of, pattern_of}
 use Rattle.machine.specs.View.{sizes_in}
 use Rattle.symbols.specs.Symbol.{condition_of}
@@ -6,8 +6,8 @@ use Rattle.symbols.specs.View.{symbols_in}
 use Rattle.symbols.proofs.Conditions.{Left}
 use Rattle.symbols.proofs.select.hold.Given as goal
 
-abbrev pub invariant-loop-i : goal.invariant-loop-i
-invariant-loop-i l =
+abbrev pub invariant-loop-key : goal.invariant-loop-key
+invariant-loop-key l =
     Left (sizes_in l.machine) (symbols_in l.machine l.heads) (take l.at l.initial.out) l.at l.out
     (take l.at l.initial.out ++ condition_of (symbols_in l.machine l.heads) (map expr_of l.keys) (map pattern_of l.patterns)) l.next
-    (drop l.i l.keys) (drop l.i l.patterns)
+    l.key-iterator.a.rest.now l.key-iterator.b.rest.now
