@@ -105,10 +105,9 @@ fn pair_up(bits: &[u8], out: &mut [u64], at: usize)
     ensures { take (at + 2 * length bits.now) out.new ≡ take at out.old ++ paired (part (in_row out.old) (at + length bits.now) (length bits.now)) bits.now }
 {
     let n = bits.len();
-    let mut next = at;
     for (i, bit) in bits.iter().enumerate() {
+        let next = at + 2 * i;
         out[next] = out[at + n + i];
         out[next + 1] = *bit as u64;
-        next += 2;
     }
 }
