@@ -6,12 +6,12 @@ use Rattle.machine.proofs.Matching.{as_many}
 use Rattle.symbols.specs.Symbol.{condition_of}
 use Rattle.symbols.specs.View.{symbols_in}
 use Rattle.symbols.proofs.Conditions.{Left, proper, as_wide, passes_any, wrote, all_written, room_left}
-use Rattle.symbols.proofs.select.hold.Goals as goal
+use Rattle.symbols.proofs.heads.Heads.hold.Goals as goal
 
 pub loop-key-init : goal.loop-key-init
 loop-key-init c =
-    let ns : List ℕ = sizes_in c.args.machine.now in
-    let s : Store = symbols_in c.args.machine.now c.args.heads.now in
+    let ns : List ℕ = sizes_in c.args.self.now.machine.now in
+    let s : Store = symbols_in c.args.self.now.machine.now c.args.self.now.symbols.now in
     let start : List ℕ = take c.args.at c.args.out.now in
     let whole : List ℕ = start ++ condition_of s (map expr_of c.args.keys.now) (map pattern_of c.args.patterns.now) in
     let zipped = c.into_iter-key-iterator.ensures.into_iter_gives in
@@ -27,7 +27,6 @@ write_pairs-next-requires c =
     record {
       proper = proper _ _ _ _ c.loop-key.invariant steps.0 steps.1;
       wide = ap length c.deref.ensures.value ∙ as_wide _ _ _ _ c.loop-key.invariant steps.0 steps.1 c.in-Exactly.is;
-      heads = c.requires.heads;
       room = omega (arith, room_left c.loop-key.next c.len.result (length c.loop-key.out) c.loop-key.invariant.room c.if-out-next.false, c.deref.ensures.len, c.len.ensures);
     }
 
@@ -45,7 +44,7 @@ loop-key-preserved c =
 
 pub returns : goal.returns
 returns c =
-    let many = as_many (sizes_in c.args.machine.now) c.loop-key.key-iterator.a.rest.now c.loop-key.key-iterator.b.rest.now c.loop-key.invariant.wide in
+    let many = as_many (sizes_in c.args.self.now.machine.now) c.loop-key.key-iterator.a.rest.now c.loop-key.key-iterator.b.rest.now c.loop-key.invariant.wide in
     let none : length c.loop-key.key-iterator.b.rest.now ≡ 0 = ⊎_elim (λ p. sym many ∙ p.1.0) (λ p. p.1.0) c.in-None.ensures.steps in
     record {
       below = c.loop-key.invariant.kept;
