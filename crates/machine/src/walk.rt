@@ -86,13 +86,10 @@ impl Machine {
         ensures { target_of result ≡ selected (contents self.now store.now) (state_of state.now) }
     {
         'cases: for case in state.cases.iter() {
-            for (i, pattern) in case.patterns.iter().enumerate() {
-                match pattern {
-                    Pattern::Any => {}
-                    Pattern::Exactly(bits) => {
-                        if !self.equals(&state.keys[i], store, bits) {
-                            continue 'cases;
-                        }
+            for (key, pattern) in state.keys.iter().zip(case.patterns.iter()) {
+                if let Pattern::Exactly(bits) = pattern {
+                    if !self.equals(key, store, bits) {
+                        continue 'cases;
                     }
                 }
             }

@@ -1,7 +1,7 @@
 -- The loop that writes what must hold for a case, and what it comes to. Assumes nothing.
-use Rattle.std.proofs.Common.{◌≡◌, ℕ, ◌+◌, ◌-◌, ◌*◌, ◌/◌, ◌<◌, ◌≤◌, true, false, ◌&&◌, eqb, List, [], ◌∷◌, ◌++◌, map, length, take, drop, IfSome, Some, None, vec_items, Option, Vec, sym, refl, ap, ◌∙◌, subst, ap₂, arith}
+use Rattle.std.proofs.Common.{◌≡◌, ℕ, ◌+◌, ◌-◌, ◌*◌, ◌/◌, ◌≤◌, true, false, ◌&&◌, eqb, List, [], ◌∷◌, ◌++◌, map, length, take, drop, IfSome, Some, None, vec_items, Option, Vec, sym, refl, ap, ◌∙◌, subst, ap₂, arith}
 use Rattle.std.specs.declared.alloc.Global.{Global}
-use Rattle.std.proofs.lemmas.List.{append_assoc, append-nil, take-take, take-append-le, drop-take, drop_at, length-take-le}
+use Rattle.std.proofs.lemmas.List.{nil_from_length, append_assoc, append-nil, take-take, take-append-le, drop-take, drop_at, length-take-le}
 use Rattle.std.proofs.lemmas.Bool.{and_parts, eqb-true}
 use Rattle.model.specs.Parser as M
 use Rattle.model.specs.Refusal.{every, expr_width, named_expr, sized_expr, sized_patterns}
@@ -9,7 +9,7 @@ use Rattle.syntax.specs.View.{expr_of, pattern_of}
 use Rattle.syntax.specs.declared.ast.Expr.{Expr}
 use Rattle.syntax.specs.declared.ast.Pattern.{Pattern}
 use Rattle.syntax.specs.declared.ast.Pattern.TheVariants.{Exactly, Any}
-use Rattle.machine.proofs.Matching as Matching
+use Rattle.machine.specs.Sound.{Proper}
 use Rattle.machine.proofs.Values.{value_long}
 use Rattle.symbols.specs.Symbol.{sense, row_sense, store_sense, paired, condition_of, holds}
 use Rattle.symbols.proofs.Natural.{value-map}
@@ -20,6 +20,8 @@ module _ (ns : List ℕ) (s : M.Store) (start : List ℕ) (at : ℕ) where
   pub record Left (out whole : List ℕ) (next : ℕ) (keys : List Expr) (ps : List Pattern) : Type 0 where
     pub same : take next out ++ condition_of s (map expr_of keys) (map pattern_of ps) ≡ whole
     pub kept : take at out ≡ start
+    pub named : every (named_expr ns) (map expr_of keys) ≡ true
+    pub sized : every (sized_expr ns) (map expr_of keys) ≡ true
     pub wide : sized_patterns ns (map expr_of keys) (map pattern_of ps) ≡ true
     pub reached : at ≤ next
     pub room : next ≤ length out
@@ -29,11 +31,13 @@ module _ (ns : List ℕ) (s : M.Store) (start : List ℕ) (at : ℕ) where
     here : Left out whole next (e ∷ es) (p ∷ ps)
     here = subst (λ ys. Left out whole next (e ∷ es) ys) pats_are (subst (λ xs. Left out whole next xs pats) keys_are left)
 
-    pub passes_any : {out' : List ℕ} {next' : ℕ} → p ≡ Any → out' ≡ out → next' ≡ next → Left out' whole next' es ps
-    passes_any {out'} {next'} is out-is next-is =
+    pub proper : Proper ns (expr_of e)
+    proper = record { named = (and_parts _ _ here.named).0; sized = (and_parts _ _ here.sized).0 }
+
+    pub passes_any : p ≡ Any → Left out whole next es ps
+    passes_any is =
         let h = subst (λ q. Left out whole next (e ∷ es) (q ∷ ps)) is here in
-        subst (λ k. Left out' whole k es ps) (sym next-is) (subst (λ o. Left o whole next es ps) (sym out-is)
-        (record { same = h.same; kept = h.kept; wide = h.wide; reached = h.reached; room = h.room }))
+        record { same = h.same; kept = h.kept; named = (and_parts _ _ h.named).1; sized = (and_parts _ _ h.sized).1; wide = h.wide; reached = h.reached; room = h.room }
 
     module _ {bs : Vec ℕ Global} (is : p ≡ Exactly bs) where
       exact : Left out whole next (e ∷ es) (Exactly bs ∷ ps)
@@ -42,31 +46,31 @@ module _ (ns : List ℕ) (s : M.Store) (start : List ℕ) (at : ℕ) where
       pub as_wide : length (vec_items bs) ≡ expr_width ns (expr_of e)
       as_wide = eqb-true _ _ (and_parts _ _ (and_parts _ _ exact.wide).0).1
 
-      pub wrote : {out' out'' bits : List ℕ} {next' next'' : ℕ} → take next'' out'' ≡ take next out ++ paired (M.value s (expr_of e)) bits → bits ≡ vec_items bs → next ≤ next'' → next'' ≤ length out''
-          → out' ≡ out'' → next' ≡ next'' → Left out' whole next' es ps
-      wrote {out'} {out''} {bits} {next'} {next''} w bits_are on r out-is next-is =
+      pub wrote : {out' bits : List ℕ} {next' : ℕ} → take next' out' ≡ take next out ++ paired (M.value s (expr_of e)) bits → bits ≡ vec_items bs → next ≤ next' → next' ≤ length out'
+          → Left out' whole next' es ps
+      wrote {out'} {bits} {next'} w bits_are on r =
           let far : at ≤ next = left.reached in
           let within : next ≤ length out = left.room in
-          subst (λ k. Left out' whole k es ps) (sym next-is) (subst (λ o. Left o whole next'' es ps) (sym out-is) (record {
+          record {
             same = ap (λ xs. xs ++ condition_of s (map expr_of es) (map pattern_of ps)) (w ∙ ap (λ x. take next out ++ paired (M.value s (expr_of e)) x) bits_are)
                 ∙ append_assoc (take next out) (paired (M.value s (expr_of e)) (vec_items bs)) _ ∙ exact.same;
-            kept = sym (take-take at next'' out'' (omega arith)) ∙ ap (take at) w
+            kept = sym (take-take at next' out' (omega arith)) ∙ ap (take at) w
                 ∙ take-append-le at (take next out) (paired (M.value s (expr_of e)) bits) (omega (arith, length-take-le next out within)) ∙ take-take at next out far ∙ left.kept;
+            named = (and_parts _ _ exact.named).1;
+            sized = (and_parts _ _ exact.sized).1;
             wide = (and_parts _ _ exact.wide).1;
             reached = omega arith;
             room = r;
-          }))
+          }
 
   condition_none : (es : List M.Expr) → condition_of s es [] ≡ []
   condition_none [] = refl
   condition_none (e ∷ es) = refl
 
-  pub all_written : {out whole : List ℕ} {next : ℕ} {keys : List Expr} {pats : List Pattern} → Left out whole next keys pats → pats ≡ [] → take next out ≡ whole
+  pub all_written : {out whole : List ℕ} {next : ℕ} {keys : List Expr} {pats : List Pattern} → Left out whole next keys pats → length pats ≡ 0 → take next out ≡ whole
   all_written {out} {whole} {next} {keys} {pats} left is =
-      sym (append-nil (take next out)) ∙ sym (ap (λ xs. take next out ++ condition_of s (map expr_of keys) (map pattern_of xs)) is ∙ ap (λ xs. take next out ++ xs) (condition_none (map expr_of keys))) ∙ left.same
-
-  pub one_more : {out whole : List ℕ} {next : ℕ} (keys : List Expr) (ps : List Pattern) (i : ℕ) → Left out whole next (drop i keys) (drop i ps) → i < length ps → i < length keys
-  one_more keys ps i left l = Matching.one_more ns s keys ps i (record { same = refl; sized = left.wide }) l
+      let none : pats ≡ [] = nil_from_length pats is in
+      sym (append-nil (take next out)) ∙ sym (ap (λ xs. take next out ++ condition_of s (map expr_of keys) (map pattern_of xs)) none ∙ ap (λ xs. take next out ++ xs) (condition_none (map expr_of keys))) ∙ left.same
 
 pub room_left : (next n l : ℕ) → next ≤ l → n ≤ (l - next) / 2 → next + 2 * n ≤ l
 room_left next n l a b = omega arith

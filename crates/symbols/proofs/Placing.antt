@@ -1,16 +1,20 @@
 -- Headers in a row: what stands where, and rows that stand for others. Assumes nothing.
-use Rattle.std.proofs.Common.{◌≡◌, ℕ, zero, suc, ◌+◌, ◌<◌, ◌≤◌, List, [], ◌∷◌, map, length, get_or, take, sym, refl, ap, ◌∙◌, ap₂, arith}
-use Rattle.std.proofs.lemmas.List.{ext_get_or, get_or-take, length-take-le}
+use Rattle.std.proofs.Common.{◌≡◌, ℕ, zero, suc, ◌+◌, ◌<◌, ◌≤◌, List, [], ◌∷◌, map, length, take, drop, sym, refl, ap, ◌∙◌, ap₂, arith}
+use Rattle.std.proofs.lemmas.List.{ext_get_or, get_or-take, get_or-drop, length-take-le, length-drop}
 use Rattle.model.specs.Refusal.{sum}
 use Rattle.machine.specs.Row.{part, headers}
 use Rattle.machine.proofs.Rows.{length_part, part_at}
 use Rattle.symbols.specs.View.{in_row}
 
--- the front of a list
+-- a part of a list, and its front
+pub list_part : (xs : List ℕ) (k n : ℕ) → k + n ≤ length xs → take n (drop k xs) ≡ part (in_row xs) k n
+list_part xs k n l =
+    let long : length (take n (drop k xs)) ≡ n = length-take-le n (drop k xs) (omega (arith, length-drop k xs)) in
+    ext_get_or 0 (take n (drop k xs)) (part (in_row xs) k n) (long ∙ sym (length_part (in_row xs) k n))
+    (λ i h. let short : i < n = omega arith in get_or-take n (drop k xs) i 0 short ∙ get_or-drop k xs i 0 ∙ sym (part_at (in_row xs) k n i short))
+
 pub take_part : (xs : List ℕ) (n : ℕ) → n ≤ length xs → take n xs ≡ part (in_row xs) 0 n
-take_part xs n l =
-    ext_get_or 0 (take n xs) (part (in_row xs) 0 n) (length-take-le n xs l ∙ sym (length_part (in_row xs) 0 n))
-    (λ i h. let short : i < n = omega (arith, length-take-le n xs l) in get_or-take n xs i 0 short ∙ sym (part_at (in_row xs) 0 n i short ∙ ap (λ j. get_or xs j 0) (omega arith)))
+take_part xs n l = list_part xs 0 n (omega arith)
 
 pub map-part : (g f h : ℕ → ℕ) (k m n : ℕ) → ((i : ℕ) → i < n → g (f (k + i)) ≡ h (m + i)) → map g (part f k n) ≡ part h m n
 map-part g f h k m zero e = refl

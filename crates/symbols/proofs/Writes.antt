@@ -1,6 +1,6 @@
 -- What is written into a list, which holds a row. Assumes nothing.
-use Rattle.std.proofs.Common.{◌≡◌, ℕ, ◌+◌, ◌<◌, ◌≤◌, List, length, get_or, take, set, sym, ◌∙◌, arith}
-use Rattle.std.proofs.lemmas.List.{get_or-set_same, get_or-set_other}
+use Rattle.std.proofs.Common.{◌≡◌, ℕ, ◌+◌, ◌-◌, ◌<◌, ◌≤◌, List, ◌++◌, length, get_or, take, drop, set, sym, ap, ◌∙◌, arith}
+use Rattle.std.proofs.lemmas.List.{get_or-set_same, get_or-set_other, get_or-append_right, get_or_append_left, get_or-take, get_or-drop, length-take-le}
 use Rattle.machine.specs.Window.{Written}
 use Rattle.machine.proofs.Rows.{same_part}
 use Rattle.machine.proofs.Writes.{write_more}
@@ -10,6 +10,20 @@ use Rattle.symbols.proofs.Placing.{take_part}
 -- one that is written into a list
 pub item_written : {f : ℕ → ℕ} (ys : List ℕ) {xs : List ℕ} {k i y : ℕ} → Written f (in_row ys) xs k i → k + i < length ys → y ≡ get_or xs i 0 → Written f (in_row (set ys (k + i) y)) xs k (i + 1)
 item_written {f} ys {xs} {k} {i} {y} w l e = write_more w (get_or-set_same ys (k + i) y 0 l ∙ e) (λ j ne. get_or-set_other ys (k + i) j y 0 ne)
+
+-- and k that are written over
+pub part_written : (xs ys : List ℕ) (a k : ℕ) → a + k ≤ length xs → length ys ≡ k → Written (in_row xs) (in_row (take a xs ++ (ys ++ drop k (drop a xs)))) ys a k
+part_written xs ys a k l long =
+    let front : List ℕ = take a xs in
+    let rest : List ℕ = drop k (drop a xs) in
+    let short : length front ≡ a = length-take-le a xs (omega arith) in
+    record {
+      wrote = λ j h. get_or-append_right front (ys ++ rest) a (a + j) 0 short (omega arith) ∙ ap (λ m. get_or (ys ++ rest) m 0) (omega arith) ∙ get_or_append_left ys rest 0 j (omega arith);
+      below = λ j h. get_or_append_left front (ys ++ rest) 0 j (omega arith) ∙ get_or-take a xs j 0 h;
+      above = λ j h.
+          get_or-append_right front (ys ++ rest) a j 0 short (omega arith) ∙ get_or-append_right ys rest k (j - a) 0 long (omega arith) ∙ get_or-drop k (drop a xs) (j - a - k) 0
+          ∙ get_or-drop a xs (k + (j - a - k)) 0 ∙ ap (λ m. get_or xs m 0) (omega arith);
+    }
 
 -- what stands in front of it stays
 pub front_stays : (xs ys : List ℕ) (i : ℕ) {v : List ℕ} {at n : ℕ} → i ≤ length xs → length ys ≡ length xs → i ≤ at → Written (in_row xs) (in_row ys) v at n → take i ys ≡ take i xs

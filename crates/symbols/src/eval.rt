@@ -7,10 +7,11 @@ ghost use Rattle.machine.specs.Sound.{Proper};
 ghost use Rattle.machine.specs.View.{sizes_in};
 ghost use Rattle.machine.specs.Window.{Written, Wrote};
 ghost use Rattle.symbols.specs.Filling.{filling_laws};
-ghost use Rattle.symbols.specs.View.{header_bits, in_row, symbols_in};
+ghost use Rattle.symbols.specs.View.{in_row, symbols_in};
 
+use crate::heads::Heads;
 use crate::row;
-use machine::{Machine, Sink, Want};
+use machine::{Sink, Want};
 use syntax::Expr;
 
 // a row that symbols are written into, from place `at` on; those of the headers are in `heads`
@@ -47,14 +48,19 @@ impl<'a> Sink for Filling<'a> {
     ghost laws = { filling_laws };
 }
 
-// Writes the symbols of an expression into `out` from `at` on, all n of them.
-pub(crate) fn fill(machine: &Machine, e: &Expr, heads: &[u64], n: usize, out: &mut [u64], at: usize)
-    requires proper { Proper (sizes_in machine.now) (expr_of e.now) }
-    requires wide { n ≡ expr_width (sizes_in machine.now) (expr_of e.now) }
-    requires there { header_bits machine.now ≤ length heads.now }
-    requires room { at + n ≤ length out.old }
-    ensures { Written (in_row out.old) (in_row out.new) (value (symbols_in machine.now heads.now) (expr_of e.now)) at n }
-{
-    let mut filling = Filling { heads, out, at };
-    let _ = machine.hand(e, Want::first(n), &mut filling);
+impl Heads<'_> {
+    // Writes the symbols of an expression into `out` from `at` on, all n of them.
+    pub(crate) fn fill(&self, e: &Expr, n: usize, out: &mut [u64], at: usize)
+        requires proper { Proper (sizes_in self.now.machine.now) (expr_of e.now) }
+        requires wide { n ≡ expr_width (sizes_in self.now.machine.now) (expr_of e.now) }
+        requires room { at + n ≤ length out.old }
+        ensures { Written (in_row out.old) (in_row out.new) (value (symbols_in self.now.machine.now self.now.symbols.now) (expr_of e.now)) at n }
+    {
+        let mut filling = Filling {
+            heads: self.symbols,
+            out,
+            at,
+        };
+        let _ = self.machine.hand(e, Want::first(n), &mut filling);
+    }
 }

@@ -4,6 +4,7 @@
 #![tactic(auto)]
 
 mod eval;
+mod heads;
 mod leaps;
 mod outcome;
 mod point;
@@ -12,8 +13,8 @@ mod select;
 mod size;
 mod walk;
 
+pub use heads::Heads;
 pub use leaps::leap;
 pub use outcome::{outcome_is_taken, outcome_target, outcomes};
 pub use point::{Leapt, Places, Point};
-pub use select::condition;
 pub use size::leap_size;

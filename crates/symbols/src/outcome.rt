@@ -21,10 +21,9 @@ pub fn outcome_target(machine: &Machine, q: u16, o: usize) -> Target
     ensures { target_of result ≡ outcome_target (state_in machine.now q) o }
 {
     let state = &machine.checked.parser.states[q as usize];
-    if o < state.cases.len() {
-        state.cases[o].target
-    } else {
-        state.otherwise
+    match state.cases.get(o) {
+        Some(case) => case.target,
+        None => state.otherwise,
     }
 }
 

@@ -21,9 +21,7 @@ pub(crate) fn copy(row: &mut [u64], at: usize, other: &[u64], start: usize, n: u
     requires room { at + n ≤ length row.old }
     ensures { Written (in_row row.old) (in_row row.new) (part (in_row other.now) start n) at n }
 {
-    for i in 0..n {
-        row[at + i] = other[start + i];
-    }
+    row[at..at + n].copy_from_slice(&other[start..start + n]);
 }
 
 // places from `at` on get these bits

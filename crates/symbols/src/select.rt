@@ -10,95 +10,62 @@ ghost use Rattle.machine.specs.Row.{part};
 ghost use Rattle.symbols.specs.View.{in_row, header_bits, symbols_in};
 ghost use Rattle.symbols.specs.Symbol.{Below, are_pairs, condition_of, holds, paired, store_sense};
 
-use crate::eval::fill;
-use machine::Machine;
+use crate::heads::Heads;
 use syntax::{Expr, Pattern};
 
-// For each bit of the patterns of a case the symbol that is held to it, then the bit, from `at` on. None
-// where there is no room, else the place after them. Whatever bits there are at the positions, all pairs
-// hold just if the case matches.
-pub fn condition(
-    machine: &Machine,
-    q: u16,
-    case: usize,
-    heads: &[u64],
-    out: &mut [u64],
-    at: usize,
-) -> Option<usize>
-    requires known { q < state_count machine.now }
-    requires there { case < length (state_in machine.now q).cases }
-    requires heads { header_bits machine.now ≤ length heads.now }
-    requires within { at ≤ length out.old }
-    ensures end { IfSome result (λ n. (at ≤ n) × (n ≤ length out.new)) }
-    ensures below { take at out.new ≡ take at out.old }
-    ensures told { IfSome result (λ n. (ν : ℕ → ℕ) → holds ν (take (n - at) (drop at out.new)) ≡ matches (store_sense ν (symbols_in machine.now heads.now)) (state_in machine.now q).keys (case_at (state_in machine.now q) case).patterns) }
-    ensures pairs { IfSome result (λ n. (top : ℕ) → Below top (in_row heads.now) (header_bits machine.now) → are_pairs top (take (n - at) (drop at out.new)) ≡ true) }
-{
-    let state = &machine.checked.parser.states[q as usize];
-    hold(
-        machine,
-        &state.keys,
-        &state.cases[case].patterns,
-        heads,
-        out,
-        at,
-    )
-}
+impl Heads<'_> {
+    // For each bit of the patterns of a case the symbol that is held to it, then the bit, from `at` on. None
+    // where there is no room, else the place after them. Whatever bits there are at the positions, all pairs
+    // hold just if the case matches.
+    pub fn condition(&self, q: u16, case: usize, out: &mut [u64], at: usize) -> Option<usize>
+        requires known { q < state_count self.now.machine.now }
+        requires there { case < length (state_in self.now.machine.now q).cases }
+        requires within { at ≤ length out.old }
+        ensures end { IfSome result (λ n. (at ≤ n) × (n ≤ length out.new)) }
+        ensures below { take at out.new ≡ take at out.old }
+        ensures told { IfSome result (λ n. (ν : ℕ → ℕ) → holds ν (take (n - at) (drop at out.new)) ≡ matches (store_sense ν (symbols_in self.now.machine.now self.now.symbols.now)) (state_in self.now.machine.now q).keys (case_at (state_in self.now.machine.now q) case).patterns) }
+        ensures pairs { IfSome result (λ n. (top : ℕ) → Below top (in_row self.now.symbols.now) (header_bits self.now.machine.now) → are_pairs top (take (n - at) (drop at out.new)) ≡ true) }
+    {
+        let state = &self.machine.checked.parser.states[q as usize];
+        self.hold(&state.keys, &state.cases[case].patterns, out, at)
+    }
 
-// the same for keys and their patterns
-fn hold(
-    machine: &Machine,
-    keys: &[Expr],
-    patterns: &[Pattern],
-    heads: &[u64],
-    out: &mut [u64],
-    at: usize,
-) -> Option<usize>
-    requires named { every (named_expr (sizes_in machine.now)) (map expr_of keys.now) ≡ true }
-    requires sized { every (sized_expr (sizes_in machine.now)) (map expr_of keys.now) ≡ true }
-    requires wide { sized_patterns (sizes_in machine.now) (map expr_of keys.now) (map pattern_of patterns.now) ≡ true }
-    requires heads { header_bits machine.now ≤ length heads.now }
-    requires within { at ≤ length out.old }
-    ensures below { take at out.new ≡ take at out.old }
-    ensures end { IfSome result (λ n. (at ≤ n) × (n ≤ length out.new)) }
-    ensures wrote { IfSome result (λ n. take n out.new ≡ take at out.old ++ condition_of (symbols_in machine.now heads.now) (map expr_of keys.now) (map pattern_of patterns.now)) }
-{
-    let mut next = at;
-    for (i, pattern) in patterns.iter().enumerate() {
-        match pattern {
-            Pattern::Any => {}
-            Pattern::Exactly(bits) => {
+    // the same for keys and their patterns
+    fn hold(&self, keys: &[Expr], patterns: &[Pattern], out: &mut [u64], at: usize) -> Option<usize>
+        requires named { every (named_expr (sizes_in self.now.machine.now)) (map expr_of keys.now) ≡ true }
+        requires sized { every (sized_expr (sizes_in self.now.machine.now)) (map expr_of keys.now) ≡ true }
+        requires wide { sized_patterns (sizes_in self.now.machine.now) (map expr_of keys.now) (map pattern_of patterns.now) ≡ true }
+        requires within { at ≤ length out.old }
+        ensures below { take at out.new ≡ take at out.old }
+        ensures end { IfSome result (λ n. (at ≤ n) × (n ≤ length out.new)) }
+        ensures wrote { IfSome result (λ n. take n out.new ≡ take at out.old ++ condition_of (symbols_in self.now.machine.now self.now.symbols.now) (map expr_of keys.now) (map pattern_of patterns.now)) }
+    {
+        let mut next = at;
+        for (key, pattern) in keys.iter().zip(patterns.iter()) {
+            if let Pattern::Exactly(bits) = pattern {
                 if (out.len() - next) / 2 < bits.len() {
                     return None;
                 }
-                next = write_pairs(machine, &keys[i], bits, heads, out, next);
+                next = self.write_pairs(key, bits, out, next);
             }
         }
+        Some(next)
     }
-    Some(next)
-}
 
-// The symbols of a key, each followed by the bit that it is held to. They are written behind the place of
-// the pairs' first half, so that the key is gone over once and no more room is needed than for the pairs.
-fn write_pairs(
-    machine: &Machine,
-    key: &Expr,
-    bits: &[u8],
-    heads: &[u64],
-    out: &mut [u64],
-    at: usize,
-) -> usize
-    requires proper { Proper (sizes_in machine.now) (expr_of key.now) }
-    requires wide { length bits.now ≡ expr_width (sizes_in machine.now) (expr_of key.now) }
-    requires heads { header_bits machine.now ≤ length heads.now }
-    requires room { at + 2 * length bits.now ≤ length out.old }
-    ensures end { result ≡ at + 2 * length bits.now }
-    ensures wrote { take result out.new ≡ take at out.old ++ paired (value (symbols_in machine.now heads.now) (expr_of key.now)) bits.now }
-{
-    let n = bits.len();
-    fill(machine, key, heads, n, out, at + n);
-    pair_up(bits, out, at);
-    at + 2 * n
+    // The symbols of a key, each followed by the bit that it is held to. They are written behind the place of
+    // the pairs' first half, so that the key is gone over once and no more room is needed than for the pairs.
+    fn write_pairs(&self, key: &Expr, bits: &[u8], out: &mut [u64], at: usize) -> usize
+        requires proper { Proper (sizes_in self.now.machine.now) (expr_of key.now) }
+        requires wide { length bits.now ≡ expr_width (sizes_in self.now.machine.now) (expr_of key.now) }
+        requires room { at + 2 * length bits.now ≤ length out.old }
+        ensures end { result ≡ at + 2 * length bits.now }
+        ensures wrote { take result out.new ≡ take at out.old ++ paired (value (symbols_in self.now.machine.now self.now.symbols.now) (expr_of key.now)) bits.now }
+    {
+        let n = bits.len();
+        self.fill(key, n, out, at + n);
+        pair_up(bits, out, at);
+        at + 2 * n
+    }
 }
 
 // As many symbols as bits, which stand that many places after `at`, become pairs from `at` on. The
@@ -108,10 +75,9 @@ fn pair_up(bits: &[u8], out: &mut [u64], at: usize)
     ensures { take (at + 2 * length bits.now) out.new ≡ take at out.old ++ paired (part (in_row out.old) (at + length bits.now) (length bits.now)) bits.now }
 {
     let n = bits.len();
-    let mut next = at;
     for (i, bit) in bits.iter().enumerate() {
+        let next = at + 2 * i;
         out[next] = out[at + n + i];
         out[next + 1] = *bit as u64;
-        next += 2;
     }
 }

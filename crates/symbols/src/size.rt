@@ -41,8 +41,5 @@ fn still_needs(machine: &Machine, point: Point) -> usize
 fn is_reject(target: Target) -> bool
     ensures { result ≡ is_reject (target_of target) }
 {
-    match target {
-        Target::State(_) | Target::Accept => false,
-        Target::Reject => true,
-    }
+    matches!(target, Target::Reject)
 }

@@ -7,7 +7,7 @@ ghost use Rattle.machine.specs.Sound.{Proper, Sound};
 ghost use Rattle.machine.specs.View.{sizes_in, state_count};
 ghost use Rattle.symbols.specs.View.{header_bits, symbols_in};
 
-use crate::eval::fill;
+use crate::heads::Heads;
 use crate::row;
 use machine::Machine;
 use syntax::{Expr, Op, State};
@@ -58,6 +58,10 @@ fn assign(machine: &Machine, h: u16, heads: &mut [u64], e: &Expr, scratch: &mut 
     requires aside { header_bits machine.now ≤ length scratch.old }
     ensures { symbols_in machine.now heads.new ≡ slice_set (symbols_in machine.now heads.old) h (value (symbols_in machine.now heads.old) (expr_of e.now)) }
 {
-    fill(machine, e, heads, machine.size(h), scratch, 0);
+    let before = Heads {
+        machine,
+        symbols: heads,
+    };
+    before.fill(e, machine.size(h), scratch, 0);
     put(machine, h, heads, scratch);
 }

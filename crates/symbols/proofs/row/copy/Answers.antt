@@ -1,17 +1,21 @@
-use Rattle.std.proofs.Common.{◌≡◌, ◌<◌, sym, subst, arith}
+use Rattle.std.proofs.Common.{◌≡◌, ℕ, ◌+◌, ◌-◌, List, ◌++◌, take, drop, sym, ap, ◌∙◌, subst, arith}
 use Rattle.machine.specs.Row.{part}
-use Rattle.symbols.specs.View.{in_row}
 use Rattle.machine.specs.Window.{Written}
-use Rattle.machine.proofs.Rows.{part_at}
-use Rattle.symbols.proofs.Writes.{item_written}
+use Rattle.machine.proofs.Rows.{length_part}
+use Rattle.symbols.specs.View.{in_row}
+use Rattle.symbols.proofs.Placing.{list_part}
+use Rattle.symbols.proofs.Writes.{part_written}
 use Rattle.symbols.proofs.row.copy.Goals as goal
-
-pub loop-i-preserved : goal.loop-i-preserved
-loop-i-preserved c =
-    let within : c.loop-i.i < c.args.n = omega arith in
-    item_written c.loop-i.row c.loop-i.invariant (omega arith) (sym (part_at (in_row c.args.other.now) c.args.start c.args.n c.loop-i.i within))
 
 pub returns : goal.returns
 returns c =
-    let all : c.loop-i.i ≡ c.args.n = omega arith in
-    subst (Written (in_row c.args.row.now) (in_row c.loop-i.row) (part (in_row c.args.other.now) c.args.start c.args.n) c.args.at) all c.loop-i.invariant
+    let at : ℕ = c.args.at in
+    let n : ℕ = c.args.n in
+    let row : List ℕ = c.args.row.now in
+    let xs : List ℕ = part (in_row c.args.other.now) c.args.start n in
+    let all : at + n - at ≡ n = omega arith in
+    let many : c.args.start + n - c.args.start ≡ n = omega arith in
+    let copied : c.copy_from_slice.new.self ≡ xs = c.copy_from_slice.ensures.after ∙ ap (λ m. take m (drop c.args.start c.args.other.now)) many ∙ list_part c.args.other.now c.args.start n c.requires.there in
+    subst (λ ys. Written (in_row row) (in_row (take at row ++ (ys ++ drop (at + n - at) (drop at row)))) xs at n) (sym copied)
+    (subst (λ m. Written (in_row row) (in_row (take at row ++ (xs ++ drop m (drop at row)))) xs at n) (sym all)
+    (part_written row xs at n c.requires.room (length_part (in_row c.args.other.now) c.args.start n)))

@@ -8,4 +8,4 @@ use Rattle.symbols.proofs.select.pair_up.Given as goal
 abbrev pub invariant-loop-i : goal.invariant-loop-i
 invariant-loop-i l =
     Pairing l.out (take l.at l.initial.out ++ paired (part (in_row l.initial.out) (l.at + length l.bits) (length l.bits)) l.bits)
-    (part (in_row l.initial.out) (l.at + length l.bits) (length l.bits)) l.bits l.at l.next l.i
+    (part (in_row l.initial.out) (l.at + length l.bits) (length l.bits)) l.bits l.at l.i

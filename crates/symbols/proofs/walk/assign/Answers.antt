@@ -14,7 +14,6 @@ fill-requires c =
     record {
       proper = c.requires.proper;
       wide = c.size.ensures ∙ sym c.requires.wide;
-      there = c.requires.there;
       room = omega (arith, c.size.ensures, start_room 0 (sizes_in c.args.machine.now) c.args.h c.requires.known, c.requires.aside);
     }
 

@@ -7,12 +7,12 @@ use Rattle.machine.proofs.Handing.{taken, wrote_whole}
 use Rattle.machine.proofs.Rows.{sizes_kept}
 use Rattle.machine.proofs.Values.{value_long}
 use Rattle.symbols.specs.View.{in_row}
-use Rattle.symbols.proofs.eval.fill.Goals as goal
+use Rattle.symbols.proofs.heads.Heads.fill.Goals as goal
 
 pub returns : goal.returns
 returns c =
-    let ns : List ℕ = sizes_in c.args.machine.now in
-    let f : ℕ → ℕ = in_row c.args.heads.now in
+    let ns : List ℕ = sizes_in c.args.self.now.machine.now in
+    let f : ℕ → ℕ = in_row c.args.self.now.symbols.now in
     let ok = c.requires.proper in
     let v : List ℕ = value (headers f 0 ns) (expr_of c.args.e.now) in
     let long = value_long (headers f 0 ns) ns (sizes_kept f 0 ns) (expr_of c.args.e.now) ok.named ok.sized ∙ sym c.requires.wide in

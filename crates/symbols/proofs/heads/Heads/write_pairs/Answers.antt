@@ -8,12 +8,12 @@ use Rattle.symbols.specs.Symbol.{paired}
 use Rattle.machine.proofs.Rows.{sizes_kept}
 use Rattle.machine.proofs.Writes.{written_part}
 use Rattle.symbols.proofs.Writes.{front_stays}
-use Rattle.symbols.proofs.select.write_pairs.Goals as goal
+use Rattle.symbols.proofs.heads.Heads.write_pairs.Goals as goal
 
 pub returns : goal.returns
 returns c =
-    let ns : List ℕ = sizes_in c.args.machine.now in
-    let f : ℕ → ℕ = in_row c.args.heads.now in
+    let ns : List ℕ = sizes_in c.args.self.now.machine.now in
+    let f : ℕ → ℕ = in_row c.args.self.now.symbols.now in
     let bs : List ℕ = c.args.bits.now in
     let ok = c.requires.proper in
     let long = value_long (headers f 0 ns) ns (sizes_kept f 0 ns) (expr_of c.args.key.now) ok.named ok.sized ∙ sym c.requires.wide in

@@ -9,18 +9,18 @@ use Rattle.symbols.specs.Symbol.{store_sense, holds, are_pairs, Below}
 use Rattle.symbols.proofs.Conditions.{behind_when}
 use Rattle.symbols.proofs.Deciding.{keys_are, patterns_are, sound_in, case_sized, case_told, case_pairs}
 use Rattle.symbols.proofs.Reading.{indexed, state_is, case_count, case_is}
-use Rattle.symbols.proofs.select.condition.Goals as goal
+use Rattle.symbols.proofs.heads.Heads.condition.Goals as goal
 
 pub index-state-requires : goal.index-state-requires
-index-state-requires c = indexed c.args.machine.now c.args.q c.requires.known
+index-state-requires c = indexed c.args.self.now.machine.now c.args.q c.requires.known
 
 pub index-requires : goal.index-requires
 index-requires c =
-    omega (arith, c.requires.there, case_count c.args.machine.now c.args.q c.requires.known c.index-state.ensures, c.index-state.result.now.cases.ok.0)
+    omega (arith, c.requires.there, case_count c.args.self.now.machine.now c.args.q c.requires.known c.index-state.ensures, c.index-state.result.now.cases.ok.0)
 
 pub hold-requires : goal.hold-requires
 hold-requires c =
-    let m : Machine = c.args.machine.now in
+    let m : Machine = c.args.self.now.machine.now in
     let ns : List ℕ = sizes_in m in
     let q : ℕ = c.args.q in
     let l = c.requires.known in
@@ -31,16 +31,15 @@ hold-requires c =
       named = ap (every (named_expr ns)) keys ∙ (sound_in m q c.args.case l c.requires.there).named_keys;
       sized = ap (every (sized_expr ns)) keys ∙ (sound_in m q c.args.case l c.requires.there).sized_keys;
       wide = ap₂ (sized_patterns ns) keys patterns ∙ case_sized m q c.args.case l c.requires.there;
-      heads = c.requires.heads;
       within = omega (arith, c.requires.within);
     }
 
 pub returns : goal.returns
 returns c =
-    let m : Machine = c.args.machine.now in
+    let m : Machine = c.args.self.now.machine.now in
     let q : ℕ = c.args.q in
     let l = c.requires.known in
-    let hs : List ℕ = c.args.heads.now in
+    let hs : List ℕ = c.args.self.now.symbols.now in
     let inside : c.args.case < length (vec_items c.index-state.result.now.cases) = omega (arith, c.requires.there, case_count m q l c.index-state.ensures) in
     let keys = keys_are c.index-state.result.now c.deref.ensures.value (state_is m q l c.index-state.ensures) in
     let patterns = patterns_are c.index.result.now c.deref-2.ensures.value (case_is m q l c.index-state.ensures inside c.index.ensures) in
