@@ -9,7 +9,7 @@ use answer::answer;
 use anyhow::anyhow;
 use hex::hex;
 use options::Options;
-use records::{next_record, wanted_room};
+use records::{Records, wanted_room};
 use reply::{line, write_answer};
 use room::grow;
 use std::alloc::{AllocError, Global};
@@ -70,16 +70,14 @@ fn answer_all(
     options: &Options,
 ) -> Result<(), Failure> {
     let mut room = Vec::new(rt.alloc());
-    let mut at = 0;
-    while let Some(record) = next_record(file, at) {
-        let request = &file[record.start..record.end];
-        let Ok(line) = answer_line(rt.alloc(), request, options, &mut room) else {
+    for record in Records::new(file) {
+        let Ok(line) = answer_line(rt.alloc(), record.request, options, &mut room) else {
+            let at = record.at;
             return Err(Failure::OfFile(format!(in rt.alloc();
                 "{name}: byte {at}: not enough memory"
             )?));
         };
         rt.println(line)?;
-        at = record.end;
     }
     Ok(())
 }
