@@ -1,6 +1,8 @@
 -- A file of requests. Assumes nothing.
-use Rattle.std.specs.Prelude.{◌≡◌, ℕ, ◌-◌, ◌<◌, ◌≤◌, cond, ◌&&◌, List, length, take, drop, ◌==◌, nat_lt, slice_index}
+use Rattle.std.specs.Prelude.{◌≡◌, ℕ, ◌+◌, ◌-◌, ◌<◌, cond, ◌&&◌, List, length, take, drop, ◌==◌, nat_lt, slice_index}
 use Rattle.format.specs.Read.{big_endian}
+use Rattle.records.specs.Rest.{Rest}
+use Rattle.records.specs.declared.records.Record.{Record}
 
 -- a record is a length of four bytes, and then so many bytes, which are a request; where the bytes end inside one, those that are there are it
 abbrev pub record_length : List ℕ → ℕ
@@ -12,14 +14,13 @@ first_request bs = take (record_length bs) (drop 4 bs)
 abbrev pub after_record : List ℕ → List ℕ
 after_record bs = drop (record_length bs) (drop 4 bs)
 
--- the first record of the bytes from an offset on: its request stands from `start` up to `end`, where the next record begins
-pub record Found (file : List ℕ) (at start end : ℕ) : Type 0 where
-  pub more : at < length file
-  pub further : at < end
-  pub ordered : start ≤ end
-  pub within : end ≤ length file
-  pub request : take (end - start) (drop start file) ≡ first_request (drop at file)
-  pub rest : drop end file ≡ after_record (drop at file)
+-- the first record of what is left, and what is left then: fewer bytes, which end where they ended
+pub record Found (old : Rest) (x : Record) (new : Rest) : Type 0 where
+  pub begins : x.at ≡ old.at
+  pub request : x.request.now ≡ first_request old.bytes
+  pub rest : new.bytes ≡ after_record old.bytes
+  pub further : length new.bytes < length old.bytes
+  pub end : new.at + length new.bytes ≡ old.at + length old.bytes
 
 -- how much room a request to compare asks for: its last eight bytes; of any other request none
 abbrev pub room_wanted : List ℕ → ℕ

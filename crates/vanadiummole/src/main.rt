@@ -8,7 +8,7 @@ mod room;
 use answer::answer;
 use failure::Failure;
 use options::Options;
-use records::{next_record, wanted_room};
+use records::{Records, wanted_room};
 use reply::{line, write_answer};
 use room::Room;
 use std::alloc::{AllocError, Global};
@@ -35,15 +35,13 @@ fn answer_line(
 // A line for each request of a file, as soon as it is answered.
 fn answer_all(rt: &HostRuntime, name: &str, file: &[u8], options: &Options) -> Result<(), Failure> {
     let mut room = Room::new(rt.alloc());
-    let mut at = 0;
-    while let Some(record) = next_record(file, at) {
-        let request = &file[record.start..record.end];
-        let Ok(line) = answer_line(rt.alloc(), request, options, &mut room) else {
+    for record in Records::new(file) {
+        let Ok(line) = answer_line(rt.alloc(), record.request, options, &mut room) else {
             let name = String::from_str(rt.alloc(), name)?;
+            let at = record.at;
             return Err(Failure::Unanswered { name, at });
         };
         rt.println(line)?;
-        at = record.end;
     }
     Ok(())
 }
