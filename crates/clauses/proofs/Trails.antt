@@ -78,16 +78,6 @@ trailed_inside before value trail base d q h le top past =
     let none : get_or before q 0 ≡ 0 = get_or_past before q 0 (omega (arith, h.long)) in
     omega arith
 
--- the same of a trail that is now shorter
-pub popped : (before value trail trail' : List ℕ) (base d d' q : ℕ) → trail' ≡ trail → d ≡ d' + 1 → q ≡ get_or trail d' 0 → base ≤ d' → q < length value → Trailed before value trail base d → Trailed before (set value q 2) trail' base d'
-popped before value trail trail' base d d' q same less top le within h =
-    subst (λ t. Trailed before (set value q 2) t base d') (sym same)
-    (trailed_pop before value trail base d' q (subst (λ x. Trailed before value trail base x) less h) le (sym top) within)
-
-pub popped_inside : (before value trail : List ℕ) (base d d' q : ℕ) → d ≡ d' + 1 → q ≡ get_or trail d' 0 → base ≤ d' → length value ≤ q → Trailed before value trail base d → ⊥
-popped_inside before value trail base d d' q less top le past h =
-    trailed_inside before value trail base d' q (subst (λ x. Trailed before value trail base x) less h) le (sym top) past
-
 pub trailed_none : (value trail : List ℕ) (d : ℕ) → d ≤ length trail → Trailed value value trail d d
 trailed_none value trail d h = record {
   low = omega arith;
@@ -107,30 +97,34 @@ allows_same v k k' rep value h = rw (rep, value) h
 
 -- nothing happened
 pub kept_none : (k : Bits) → Kept k k
-kept_none k = record { same = record { rep = refl; value = refl; trail = refl }; undoes = λ before base h. h }
+kept_none k = record { rep = refl; value = refl; trail = refl; undoes = λ before base h. h }
 
 -- one step and then another
 pub kept_both : (k k₁ k₂ : Bits) → Kept k k₁ → Kept k₁ k₂ → Kept k k₂
 kept_both k k₁ k₂ h g = record {
-  same = record { rep = g.same.rep ∙ h.same.rep; value = g.same.value ∙ h.same.value; trail = g.same.trail ∙ h.same.trail };
+  rep = g.rep ∙ h.rep;
+  value = g.value ∙ h.value;
+  trail = g.trail ∙ h.trail;
   undoes = λ before base t. g.undoes before base (h.undoes before base t);
 }
 
 -- some steps and then undone
-module _ (k k₁ k₂ : Bits) (kept : Kept k k₁) (undone : Undone k₁ k.trail.len k₂) where
-  entry : Since k.value.now k.trail.len k₁
-  entry = kept.undoes k.value.now k.trail.len (trailed_none k.value.now k.trail.room.now k.trail.len k.trail.within)
+module _ (k k₁ k₂ : Bits) (kept : Kept k k₁) (undone : Undone k₁ k.depth k₂) where
+  entry : Since k.value.now k.depth k₁
+  entry = kept.undoes k.value.now k.depth (trailed_none k.value.now k.trail.now k.depth k.within)
 
-  pub undone_depth : k₂.trail.len ≡ k.trail.len
+  pub undone_depth : k₂.depth ≡ k.depth
   undone_depth = undone.depth entry.low
 
   pub undone_same : k₂.value.now ≡ k.value.now
   undone_same =
-      let t = undone.undoes k.value.now k.trail.len (omega arith) entry.low entry in
-      trailed_back k.value.now k₂.value.now k₂.trail.room.now k.trail.len (subst (λ d. Trailed k.value.now k₂.value.now k₂.trail.room.now k.trail.len d) undone_depth t)
+      let t = undone.undoes k.value.now k.depth (omega arith) entry.low entry in
+      trailed_back k.value.now k₂.value.now k₂.trail.now k.depth (subst (λ d. Trailed k.value.now k₂.value.now k₂.trail.now k.depth d) undone_depth t)
 
   pub undone_kept : Kept k k₂
   undone_kept = record {
-    same = record { rep = undone.same.rep ∙ kept.same.rep; value = undone.same.value ∙ kept.same.value; trail = undone.same.trail ∙ kept.same.trail };
+    rep = undone.rep ∙ kept.rep;
+    value = undone.value ∙ kept.value;
+    trail = undone.trail ∙ kept.trail;
     undoes = λ before base h. undone.undoes before base h.low entry.low (kept.undoes before base h);
   }
