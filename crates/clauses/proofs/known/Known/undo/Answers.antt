@@ -1,4 +1,4 @@
-use Rattle.std.proofs.Common.{◌≡◌, ℕ, ◌+◌, ◌-◌, ◌≤◌, ◌<◌, List, length, get_or, refl, subst, arith}
+use Rattle.std.proofs.Common.{◌≡◌, ◌+◌, ◌-◌, refl, subst, arith}
 use Rattle.clauses.specs.Known.{Trailed}
 use Rattle.clauses.proofs.Trails.{trailed_pop, trailed_inside}
 use Rattle.clauses.proofs.known.Known.undo.Goals as goal
