@@ -28,12 +28,6 @@ bit_apart true false is = refl
 bit_apart false true is = refl
 bit_apart false false is = cc
 
--- as it stands in lent numbers
-pub bit_byte : (b : Bool) → bit b ≡ mir.Val.bool_byte b
-unfolding bit
-bit_byte true = refl
-bit_byte false = refl
-
 pub bit_odd : (l : ℕ) → bit (nat_eq (l % 2) 1) ≡ l % 2
 unfolding bit
 bit_odd l =

@@ -2,54 +2,8 @@
 use Rattle.std.proofs.Common.{◌≡◌, ℕ, ◌+◌, ◌<◌, ◌≤◌, Bool, List, length, get_or, set, sym, refl, ap, ◌∙◌, subst, inl, inr, ⊎_elim, arith, length-set}
 use Rattle.std.proofs.lemmas.List.{get_or-set_same, get_or-set_other, get_or_past, ext_get_or}
 use Rattle.std.proofs.lemmas.Bool.{cases_eq}
-use Rattle.clauses.specs.Clauses.{bit}
-use Rattle.clauses.specs.Known.{Fits, Allows, Trailed, On, Since, Kept, Undone}
+use Rattle.clauses.specs.Known.{Allows, Trailed, On, Since, Kept, Undone}
 use Rattle.clauses.specs.declared.known.Known.{Known as Bits}
-
-pub fits-set : (v : ℕ → Bool) (rep value : List ℕ) (q b : ℕ) → q < length value → bit (v q) ≡ b → Fits v rep value → Fits v rep (set value q b)
-fits-set v rep value q b within is h = record {
-  fixed = h.fixed;
-  equal = h.equal;
-  known = λ p l small. ⊎_elim
-      (λ (same : p ≡ q). ap (λ x. bit (v x)) same ∙ is ∙ sym (ap (λ x. get_or (set value q b) x 0) same ∙ get_or-set_same value q b 0 within))
-      (λ (ne : p ≡ q → ⊥).
-      let at : get_or (set value q b) p 0 ≡ get_or value p 0 = get_or-set_other value q p b 0 ne in
-      h.known p (omega (arith, length-set value q b)) (omega (arith, at)) ∙ sym at)
-      (cases_eq p q);
-}
-
--- one more on the trail
-pub trailed_push : (before value trail : List ℕ) (base depth q b : ℕ) → Trailed before value trail base depth → q < length value → depth < length trail → get_or value q 0 ≡ 2 → Trailed before (set value q b) (set trail depth q) base (depth + 1)
-trailed_push before value trail base depth q b h within room two =
-    let top : get_or (set trail depth q) depth 0 ≡ q = get_or-set_same trail depth q 0 room in
-    record {
-      low = omega (arith, h.low);
-      deep = omega (arith, length-set trail depth q);
-      long = length-set value q b ∙ h.long;
-      changed = λ p. ⊎_elim
-          (λ (same : p ≡ q).
-          let le : base ≤ depth = h.low in
-          let lt : depth < depth + 1 = omega arith in
-          inr (depth, le, lt, top ∙ sym same))
-          (λ (ne : p ≡ q → ⊥). ⊎_elim
-          (λ old. inl (get_or-set_other value q p b 0 ne ∙ old))
-          (λ (on : On trail base depth p).
-          let lt : on.0 < depth + 1 = omega (arith, on.2) in
-          let other : on.0 ≡ depth → ⊥ = λ e. omega (arith, on.2) in
-          inr (on.0, on.1, lt, get_or-set_other trail depth on.0 q 0 other ∙ on.3))
-          (h.changed p))
-          (cases_eq p q);
-      was = λ k le lt. ⊎_elim
-          (λ (same : k ≡ depth).
-          let at : get_or (set trail depth q) k 0 ≡ q = ap (λ x. get_or (set trail depth q) x 0) same ∙ top in
-          ap (λ x. get_or before x 0) at
-          ∙ ⊎_elim
-          (λ old. sym old ∙ two)
-          (λ (on : On trail base depth q). ap (λ x. get_or before x 0) (sym on.3) ∙ h.was on.0 on.1 on.2)
-          (h.changed q))
-          (λ (ne : k ≡ depth → ⊥). ap (λ x. get_or before x 0) (get_or-set_other trail depth k q 0 ne) ∙ h.was k le (omega arith))
-          (cases_eq k depth);
-    }
 
 -- the last taken from the trail
 pub trailed_pop : (before value trail : List ℕ) (base d q : ℕ) → Trailed before value trail base (d + 1) → base ≤ d → get_or trail d 0 ≡ q → q < length value → Trailed before (set value q 2) trail base d
