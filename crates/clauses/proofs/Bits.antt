@@ -1,5 +1,5 @@
 -- Bits as numbers.
-use Rattle.std.proofs.Common.{◌≡◌, ℕ, ◌+◌, ◌-◌, ◌/◌, ◌%◌, ◌<◌, ◌≤◌, Bool, true, false, not, ◌⊎◌, nat_eq, sym, refl, ap, ◌∙◌, inl, inr, ⊎_elim, arith}
+use Rattle.std.proofs.Common.{◌≡◌, ℕ, ◌+◌, ◌-◌, ◌/◌, ◌%◌, ◌≤◌, Bool, true, false, not, ◌⊎◌, nat_eq, sym, refl, ap, ◌∙◌, inl, inr, ⊎_elim, arith}
 use Rattle.std.proofs.Math.Bool.{beq}
 use Rattle.std.proofs.lemmas.Bool.{cases_eq}
 use Rattle.clauses.specs.Clauses.{bit, Holds}
@@ -27,12 +27,6 @@ bit_apart true true is = cc
 bit_apart true false is = refl
 bit_apart false true is = refl
 bit_apart false false is = cc
-
--- as it stands in lent numbers
-pub bit_byte : (b : Bool) → bit b ≡ mir.Val.bool_byte b
-unfolding bit
-bit_byte true = refl
-bit_byte false = refl
 
 pub bit_odd : (l : ℕ) → bit (nat_eq (l % 2) 1) ≡ l % 2
 unfolding bit

@@ -1,7 +1,7 @@
 -- A clause with one more literal.
-use Rattle.std.proofs.Common.{◌≡◌, ℕ, ◌+◌, ◌/◌, ◌%◌, Bool, true, false, not, List, [], ◌∷◌, ◌++◌, Some, ap, subst, ⊎_elim, arith}
+use Rattle.std.proofs.Common.{◌≡◌, ℕ, ◌+◌, ◌/◌, ◌%◌, Bool, not, List, [], ◌∷◌, ◌++◌, Some, ap, ⊎_elim, arith}
 use Rattle.clauses.specs.Clauses.{bit}
-use Rattle.clauses.specs.Known.{Allows, Resolved, Looked}
+use Rattle.clauses.specs.Known.{Resolved, Looked}
 use Rattle.clauses.specs.declared.known.Known.{Known as Bits}
 use Rattle.clauses.specs.declared.known.Bit.TheVariants.{Known, Open}
 use Rattle.clauses.specs.declared.look.Look.{Look}

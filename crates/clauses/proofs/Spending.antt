@@ -1,15 +1,9 @@
 -- Work that is taken in parts.
-use Rattle.std.proofs.Common.{◌≡◌, ℕ, ◌+◌, ◌-◌, ◌*◌, ◌<◌, ◌≤◌, sym, refl, ap, ◌∙◌, mul-le-mul_right, add-mul, one-mul, arith}
+use Rattle.std.proofs.Common.{◌≡◌, ℕ, ◌+◌, ◌-◌, ◌*◌, ◌≤◌, sym, ap, ◌∙◌, mul-le-mul_right, add-mul, one-mul, arith}
 use Rattle.clauses.specs.Budget.{Spent}
 
 pub spent_none : (work limit : ℕ) (Out : Type 0) → (Out → ⊥) → Spent work work limit Out
 spent_none work limit Out never = record { less = omega arith; bound = omega arith; none = λ o. absurd (never o); short = λ o. absurd (never o) }
-
-pub spent_price : (work price limit : ℕ) (Out : Type 0) → price ≤ work → price ≤ limit → (Out → ⊥) → Spent work (work - price) limit Out
-spent_price work price limit Out paid small never = record { less = omega arith; bound = omega arith; none = λ o. absurd (never o); short = λ o. absurd (never o) }
-
-pub spent_all : (work limit : ℕ) (Out : Type 0) → work < limit → Spent work 0 limit Out
-spent_all work limit Out small = record { less = omega arith; bound = omega arith; none = λ o. refl; short = λ o. small }
 
 -- one part, and then another
 pub spent_both : (work mid left a b total : ℕ) (Out Out₁ Out₂ : Type 0) → Spent work mid a Out → Spent mid left b Out₁ → a + b ≤ total → (Out₂ → Out₁) → Spent work left total Out₂
@@ -32,16 +26,9 @@ spent_up work left a total Out Out₁ h le out = record {
 pub mul_more : (k m : ℕ) → k * m + m ≡ (k + 1) * m
 mul_more k m = sym (add-mul k 1 m ∙ ap (λ x. k * m + x) (one-mul m))
 
-pub mul_first : (k m : ℕ) → m + k * m ≡ (1 + k) * m
-mul_first k m = sym (add-mul 1 k m ∙ ap (λ x. x + k * m) (one-mul m))
-
 -- from a to b, and then to c
 pub mul_parts : (a b c m : ℕ) → a ≤ b → b ≤ c → (b - a) * m + (c - b) * m ≡ (c - a) * m
 mul_parts a b c m p q = sym (add-mul (b - a) (c - b) m) ∙ (let e : b - a + (c - b) ≡ c - a = omega arith in ap (λ x. x * m) e)
-
--- hints at h: their count, and n of them
-pub mul_hints : (h n m : ℕ) → m + n * m ≤ (h + 1 + n - h) * m
-mul_hints h n m = let e : 1 + n ≡ h + 1 + n - h = omega arith in omega (arith, mul_first n m, ap (λ x. x * m) e)
 
 -- counted from an earlier index
 pub spent_from : (work left at h next m : ℕ) (Out Out₁ : Type 0) → Spent work left ((next - h) * m) Out → at ≤ h → (Out₁ → Out) → Spent work left ((next - at) * m) Out₁
@@ -50,7 +37,3 @@ spent_from work left at h next m Out Out₁ spent le out = let wide : next - h �
 -- for what was read from `at` to `mid`, and then to `next`
 pub spent_on : (work half left at mid next m : ℕ) (Out Out₁ Out₂ : Type 0) → Spent work half ((mid - at) * m) Out → Spent half left ((next - mid) * m) Out₁ → at ≤ mid → mid ≤ next → (Out₂ → Out₁) → Spent work left ((next - at) * m) Out₂
 spent_on work half left at mid next m Out Out₁ Out₂ h k p q out = spent_both work half left ((mid - at) * m) ((next - mid) * m) ((next - at) * m) Out Out₁ Out₂ h k (omega (arith, mul_parts at mid next m p q)) out
-
--- used up: there was less than all numbers from `at` on can cost
-pub spent_short : (work left at next end m : ℕ) (Out : Type 0) → Spent work left ((next - at) * m) Out → next - at ≤ end - at → Out → work < (end - at) * m
-spent_short work left at next end m Out h inside o = let le : (next - at) * m ≤ (end - at) * m = mul-le-mul_right m inside in omega (arith, h.short o)

@@ -2,54 +2,8 @@
 use Rattle.std.proofs.Common.{◌≡◌, ℕ, ◌+◌, ◌<◌, ◌≤◌, Bool, List, length, get_or, set, sym, refl, ap, ◌∙◌, subst, inl, inr, ⊎_elim, arith, length-set}
 use Rattle.std.proofs.lemmas.List.{get_or-set_same, get_or-set_other, get_or_past, ext_get_or}
 use Rattle.std.proofs.lemmas.Bool.{cases_eq}
-use Rattle.clauses.specs.Clauses.{bit}
-use Rattle.clauses.specs.Known.{Fits, Allows, Trailed, On, Since, Kept, Undone}
+use Rattle.clauses.specs.Known.{Allows, Trailed, On, Since, Kept, Undone}
 use Rattle.clauses.specs.declared.known.Known.{Known as Bits}
-
-pub fits-set : (v : ℕ → Bool) (rep value : List ℕ) (q b : ℕ) → q < length value → bit (v q) ≡ b → Fits v rep value → Fits v rep (set value q b)
-fits-set v rep value q b within is h = record {
-  fixed = h.fixed;
-  equal = h.equal;
-  known = λ p l small. ⊎_elim
-      (λ (same : p ≡ q). ap (λ x. bit (v x)) same ∙ is ∙ sym (ap (λ x. get_or (set value q b) x 0) same ∙ get_or-set_same value q b 0 within))
-      (λ (ne : p ≡ q → ⊥).
-      let at : get_or (set value q b) p 0 ≡ get_or value p 0 = get_or-set_other value q p b 0 ne in
-      h.known p (omega (arith, length-set value q b)) (omega (arith, at)) ∙ sym at)
-      (cases_eq p q);
-}
-
--- one more on the trail
-pub trailed_push : (before value trail : List ℕ) (base depth q b : ℕ) → Trailed before value trail base depth → q < length value → depth < length trail → get_or value q 0 ≡ 2 → Trailed before (set value q b) (set trail depth q) base (depth + 1)
-trailed_push before value trail base depth q b h within room two =
-    let top : get_or (set trail depth q) depth 0 ≡ q = get_or-set_same trail depth q 0 room in
-    record {
-      low = omega (arith, h.low);
-      deep = omega (arith, length-set trail depth q);
-      long = length-set value q b ∙ h.long;
-      changed = λ p. ⊎_elim
-          (λ (same : p ≡ q).
-          let le : base ≤ depth = h.low in
-          let lt : depth < depth + 1 = omega arith in
-          inr (depth, le, lt, top ∙ sym same))
-          (λ (ne : p ≡ q → ⊥). ⊎_elim
-          (λ old. inl (get_or-set_other value q p b 0 ne ∙ old))
-          (λ (on : On trail base depth p).
-          let lt : on.0 < depth + 1 = omega (arith, on.2) in
-          let other : on.0 ≡ depth → ⊥ = λ e. omega (arith, on.2) in
-          inr (on.0, on.1, lt, get_or-set_other trail depth on.0 q 0 other ∙ on.3))
-          (h.changed p))
-          (cases_eq p q);
-      was = λ k le lt. ⊎_elim
-          (λ (same : k ≡ depth).
-          let at : get_or (set trail depth q) k 0 ≡ q = ap (λ x. get_or (set trail depth q) x 0) same ∙ top in
-          ap (λ x. get_or before x 0) at
-          ∙ ⊎_elim
-          (λ old. sym old ∙ two)
-          (λ (on : On trail base depth q). ap (λ x. get_or before x 0) (sym on.3) ∙ h.was on.0 on.1 on.2)
-          (h.changed q))
-          (λ (ne : k ≡ depth → ⊥). ap (λ x. get_or before x 0) (get_or-set_other trail depth k q 0 ne) ∙ h.was k le (omega arith))
-          (cases_eq k depth);
-    }
 
 -- the last taken from the trail
 pub trailed_pop : (before value trail : List ℕ) (base d q : ℕ) → Trailed before value trail base (d + 1) → base ≤ d → get_or trail d 0 ≡ q → q < length value → Trailed before (set value q 2) trail base d
@@ -78,16 +32,6 @@ trailed_inside before value trail base d q h le top past =
     let none : get_or before q 0 ≡ 0 = get_or_past before q 0 (omega (arith, h.long)) in
     omega arith
 
--- the same of a trail that is now shorter
-pub popped : (before value trail trail' : List ℕ) (base d d' q : ℕ) → trail' ≡ trail → d ≡ d' + 1 → q ≡ get_or trail d' 0 → base ≤ d' → q < length value → Trailed before value trail base d → Trailed before (set value q 2) trail' base d'
-popped before value trail trail' base d d' q same less top le within h =
-    subst (λ t. Trailed before (set value q 2) t base d') (sym same)
-    (trailed_pop before value trail base d' q (subst (λ x. Trailed before value trail base x) less h) le (sym top) within)
-
-pub popped_inside : (before value trail : List ℕ) (base d d' q : ℕ) → d ≡ d' + 1 → q ≡ get_or trail d' 0 → base ≤ d' → length value ≤ q → Trailed before value trail base d → ⊥
-popped_inside before value trail base d d' q less top le past h =
-    trailed_inside before value trail base d' q (subst (λ x. Trailed before value trail base x) less h) le (sym top) past
-
 pub trailed_none : (value trail : List ℕ) (d : ℕ) → d ≤ length trail → Trailed value value trail d d
 trailed_none value trail d h = record {
   low = omega arith;
@@ -107,30 +51,34 @@ allows_same v k k' rep value h = rw (rep, value) h
 
 -- nothing happened
 pub kept_none : (k : Bits) → Kept k k
-kept_none k = record { same = record { rep = refl; value = refl; trail = refl }; undoes = λ before base h. h }
+kept_none k = record { rep = refl; value = refl; trail = refl; undoes = λ before base h. h }
 
 -- one step and then another
 pub kept_both : (k k₁ k₂ : Bits) → Kept k k₁ → Kept k₁ k₂ → Kept k k₂
 kept_both k k₁ k₂ h g = record {
-  same = record { rep = g.same.rep ∙ h.same.rep; value = g.same.value ∙ h.same.value; trail = g.same.trail ∙ h.same.trail };
+  rep = g.rep ∙ h.rep;
+  value = g.value ∙ h.value;
+  trail = g.trail ∙ h.trail;
   undoes = λ before base t. g.undoes before base (h.undoes before base t);
 }
 
 -- some steps and then undone
-module _ (k k₁ k₂ : Bits) (kept : Kept k k₁) (undone : Undone k₁ k.trail.len k₂) where
-  entry : Since k.value.now k.trail.len k₁
-  entry = kept.undoes k.value.now k.trail.len (trailed_none k.value.now k.trail.room.now k.trail.len k.trail.within)
+module _ (k k₁ k₂ : Bits) (kept : Kept k k₁) (undone : Undone k₁ k.depth k₂) where
+  entry : Since k.value.now k.depth k₁
+  entry = kept.undoes k.value.now k.depth (trailed_none k.value.now k.trail.now k.depth k.within)
 
-  pub undone_depth : k₂.trail.len ≡ k.trail.len
+  pub undone_depth : k₂.depth ≡ k.depth
   undone_depth = undone.depth entry.low
 
   pub undone_same : k₂.value.now ≡ k.value.now
   undone_same =
-      let t = undone.undoes k.value.now k.trail.len (omega arith) entry.low entry in
-      trailed_back k.value.now k₂.value.now k₂.trail.room.now k.trail.len (subst (λ d. Trailed k.value.now k₂.value.now k₂.trail.room.now k.trail.len d) undone_depth t)
+      let t = undone.undoes k.value.now k.depth (omega arith) entry.low entry in
+      trailed_back k.value.now k₂.value.now k₂.trail.now k.depth (subst (λ d. Trailed k.value.now k₂.value.now k₂.trail.now k.depth d) undone_depth t)
 
   pub undone_kept : Kept k k₂
   undone_kept = record {
-    same = record { rep = undone.same.rep ∙ kept.same.rep; value = undone.same.value ∙ kept.same.value; trail = undone.same.trail ∙ kept.same.trail };
+    rep = undone.rep ∙ kept.rep;
+    value = undone.value ∙ kept.value;
+    trail = undone.trail ∙ kept.trail;
     undoes = λ before base h. undone.undoes before base h.low entry.low (kept.undoes before base h);
   }

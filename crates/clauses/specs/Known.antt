@@ -47,25 +47,23 @@ pub record Trailed (before value trail : List ℕ) (base depth : ℕ) : Type 0 w
 
 -- the same of what is known, in its lent room
 abbrev pub Since : List ℕ → ℕ → Bits → Type 0
-Since before base k = Trailed before k.value.now k.trail.room.now base k.trail.len
+Since before base k = Trailed before k.value.now k.trail.now base k.depth
 
--- the same representatives, and the same lent room
-pub record Same (k k' : Bits) : Type 0 where
+-- what could so be undone still can, with the same representatives, in the same lent room
+pub record Kept (k k' : Bits) : Type 0 where
   pub rep : k'.rep ≡ k.rep
   pub value : k'.value.ghost_name ≡ k.value.ghost_name
-  pub trail : k'.trail.room.ghost_name ≡ k.trail.room.ghost_name
-
--- what could so be undone still can
-pub record Kept (k k' : Bits) : Type 0 where
-  pub same : Same k k'
+  pub trail : k'.trail.ghost_name ≡ k.trail.ghost_name
   pub undoes : (before : List ℕ) (base : ℕ) → Since before base k → Since before base k'
 
 -- taken back to base
 pub record Undone (k : Bits) (base : ℕ) (k' : Bits) : Type 0 where
-  pub same : Same k k'
-  pub room : k'.trail.room.now ≡ k.trail.room.now
-  pub depth : base ≤ k.trail.len → k'.trail.len ≡ base
-  pub undoes : (before : List ℕ) (b : ℕ) → b ≤ base → base ≤ k.trail.len → Since before b k → Since before b k'
+  pub rep : k'.rep ≡ k.rep
+  pub value : k'.value.ghost_name ≡ k.value.ghost_name
+  pub trail : k'.trail.ghost_name ≡ k.trail.ghost_name
+  pub room : k'.trail.now ≡ k.trail.now
+  pub depth : base ≤ k.depth → k'.depth ≡ base
+  pub undoes : (before : List ℕ) (b : ℕ) → b ≤ base → base ≤ k.depth → Since before b k → Since before b k'
 
 -- the clause is satisfied by each valuation that is allowed and satisfies the premises
 abbrev pub Given : Bits → List (List ℕ) → List ℕ → Type 0

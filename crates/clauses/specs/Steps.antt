@@ -1,5 +1,5 @@
 -- What holds at the end of a step, and once lemmas were added. Assumes nothing.
-use Rattle.std.specs.Prelude.{◌≡◌, ℕ, ◌-◌, ◌*◌, ◌≤◌, Bool, true, List, length, take, Result, Ok, Err, IsErrOf}
+use Rattle.std.specs.Prelude.{◌≡◌, ℕ, ◌-◌, ◌*◌, ◌≤◌, Bool, List, length, take, Result, Ok, Err, IsErrOf}
 use Rattle.clauses.specs.Clauses.{All, clauses_at}
 use Rattle.clauses.specs.Known.{Allows, Kept}
 use Rattle.clauses.specs.Budget.{Spent}

@@ -91,10 +91,10 @@ pub fn follows(
     ensures sound { result ≡ Ok true → Given known.old (clauses_of premises.now) goal.now }
     ensures same { known.new.value.now ≡ known.old.value.now }
     ensures kept { Kept known.old known.new }
-    ensures depth { known.new.trail.len ≡ known.old.trail.len }
+    ensures depth { known.new.depth ≡ known.old.depth }
     ensures spent { Spent work.old.left work.new.left ((1 + length hints.now) * premises.now.most) (IsErr result) }
 {
-    let base = known.trail.len;
+    let base = known.depth;
     let end = refute(premises, known, goal, hints, work);
     known.undo(base);
     shown(end)
@@ -111,7 +111,7 @@ pub fn follows_by(
     ensures sound { result ≡ Ok true → Given known.old (clauses_of premises.now) (clause_at premises.now.numbers.now goal) }
     ensures same { known.new.value.now ≡ known.old.value.now }
     ensures kept { Kept known.old known.new }
-    ensures depth { known.new.trail.len ≡ known.old.trail.len }
+    ensures depth { known.new.depth ≡ known.old.depth }
     ensures read { ReadOn lists.old lists.new }
     ensures spent { Spent work.old.left work.new.left ((lists.new.at - lists.old.at) * premises.now.most) (IsErr result) }
 {

@@ -1,25 +1,24 @@
 // What is known of the bits: by representatives, and by what was assumed, on a trail by which that is undone.
-ghost use Rattle.std.specs.Prelude.{◌≡◌, ℕ, ◌<◌, Bool, ◌⊎◌, List, length, slice_index, IsErrOf};
-ghost use Rattle.clauses.specs.Clauses.{bit, Sat};
-ghost use Rattle.clauses.specs.Known.{Allows, Resolved, Kept, Undone};
-ghost use Rattle.clauses.specs.Steps.{After};
+ghost use Rattle.std.specs.Prelude.{◌≤◌, length};
 
 use crate::literal::Literal;
-use crate::stack::{Full, Stack};
+use crate::stack::Full;
 use crate::stop::Stop;
 
 /// In `value`, of a bit that is not known.
 pub const UNKNOWN: u64 = 2;
 
-/// What is known of the bits. It starts with an empty trail.
+/// What is known of the bits.
 #[derive(Drop)]
 pub struct Known<'a> {
     /// For each position 0, 1, or 2 + a position with the same bit. It may be short: a position beyond it stands for itself.
     pub rep: &'a [u64],
     /// 0, 1 or UNKNOWN.
     pub value: &'a mut [u64],
-    /// The positions that were assumed.
-    pub trail: Stack<'a>,
+    /// The positions that were assumed, up to `depth`. Not a `Stack`: of lent room in a struct in a struct a caller would not know what it holds afterwards.
+    pub trail: &'a mut [u64],
+    pub depth: usize,
+    pub ghost within: { depth ≤ length trail.now },
 }
 
 /// What is known of a position.
@@ -31,6 +30,32 @@ pub enum Bit {
 }
 
 impl<'a> Known<'a> {
+    ghost use Rattle.std.specs.Prelude.{◌≡◌, ℕ, ◌<◌, ◌≤◌, Bool, ◌⊎◌, List, length, slice_index, IsErrOf};
+    ghost use Rattle.clauses.specs.Clauses.{bit, Sat};
+    ghost use Rattle.clauses.specs.Known.{Allows, Resolved, Kept, Undone};
+    ghost use Rattle.clauses.specs.Steps.{After};
+
+    /// What is known with the first `depth` numbers on the trail, or all.
+    pub fn new(
+        rep: &'a [u64],
+        value: &'a mut [u64],
+        trail: &'a mut [u64],
+        depth: usize,
+    ) -> Known<'a>
+        ensures same_value { result.value.ghost_name ≡ value.entry.ghost_name }
+        ensures same_trail { result.trail.ghost_name ≡ trail.entry.ghost_name }
+        ensures room { (result.rep.now ≡ rep.now) × ((result.value.now ≡ value.old) × (result.trail.now ≡ trail.old)) }
+        ensures depth { depth ≤ length trail.old → result.depth ≡ depth }
+    {
+        let n = depth.min(trail.len());
+        Known {
+            rep,
+            value,
+            trail,
+            depth: n,
+        }
+    }
+
     #[tactic(auto, unfolding(crate::specs::Clauses::bit))]
     fn valued(&self, q: usize) -> Option<Bit>
         ensures { Resolved self.now q result }
@@ -63,8 +88,12 @@ impl<'a> Known<'a> {
         ensures kept { Kept self.old self.new }
         ensures after { (v : ℕ → Bool) → Allows self.old v → bit (v q) ≡ bit b → Allows self.new v }
     {
-        self.trail.push(q as u64)?;
+        if self.depth >= self.trail.len() {
+            return Err(Full);
+        }
+        self.trail[self.depth] = q as u64;
         self.value[q] = b as u64;
+        self.depth += 1;
         Ok(())
     }
 
@@ -99,8 +128,9 @@ impl<'a> Known<'a> {
     pub fn undo(&mut self, base: usize)
         ensures { Undone self.old base self.new }
     {
-        while self.trail.len > base {
-            let Some(q) = self.trail.pop() else { return };
+        while self.depth > base {
+            self.depth -= 1;
+            let q = self.trail[self.depth];
             if q < self.value.len() as u64 {
                 self.value[q as usize] = UNKNOWN;
             }

@@ -4,7 +4,7 @@
 //
 // A use: the premises stand at starts[..count]. Assume what is known, add the lemmas that stand at `at`, then show each goal by the hints that follow:
 //
-//     let mut known = Known { rep, value, trail: Stack::new(trail, 0) };
+//     let mut known = Known { rep, value, trail, depth: 0 };
 //     let mut starts = Stack::new(starts, count);
 //     let mut lists = Lists { numbers, at };
 //     let mut work = Work { left };

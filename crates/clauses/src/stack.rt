@@ -43,13 +43,4 @@ impl<'a> Stack<'a> {
         self.len += 1;
         Ok(())
     }
-
-    /// The last number, taken away.
-    pub fn pop(&mut self) -> Option<u64>
-        ensures same { (self.new.room.ghost_name ≡ self.old.room.ghost_name) × (self.new.room.now ≡ self.old.room.now) }
-        ensures last { MatchOption result ((self.old.len ≡ 0) × (self.new ≡ self.old)) (λ x. (self.old.len ≡ self.new.len + 1) × (x ≡ slice_index self.old.room.now self.new.len)) }
-    {
-        self.len = self.len.checked_sub(1)?;
-        Some(self.room[self.len])
-    }
 }

@@ -1,4 +1,4 @@
-use Rattle.std.proofs.Common.{◌≡◌, sym, subst}
+use Rattle.std.proofs.Common.{sym, subst}
 use Rattle.clauses.specs.Clauses.{Sat}
 use Rattle.clauses.proofs.Sats.{all_at}
 use Rattle.clauses.proofs.hints.hint.Goals as goal

@@ -1,4 +1,4 @@
-use Rattle.std.proofs.Common.{◌+◌, ◌*◌, ◌≤◌, length, mul-le-mul_right, arith}
+use Rattle.std.proofs.Common.{◌+◌, ◌*◌, arith}
 use Rattle.clauses.proofs.Spending.{spent_both, mul_more}
 use Rattle.clauses.proofs.Trails.{kept_both}
 use Rattle.clauses.proofs.hints.run_hints.Goals as goal

@@ -1,4 +1,4 @@
-use Rattle.std.proofs.Common.{◌≡◌, ◌+◌, Ok, length, sym, refl, ap, ◌∙◌, subst, arith}
+use Rattle.std.proofs.Common.{Ok, sym, refl, ap, subst, arith}
 use Rattle.std.proofs.lemmas.Result.{err_from_is_err_and}
 use Rattle.clauses.specs.Clauses.{Sat, All, clause_at, clauses_at}
 use Rattle.clauses.proofs.Growing.{both, one_long, one_front, one_more}
@@ -51,7 +51,7 @@ returns c =
       after = λ v fits all.
           let before = subst (λ n. All v (clauses_at n.now c.as_slice.result.now)) (sym e.same) (subst (λ x. All v (clauses_at c.args.lists.now.numbers.now x)) (sym c.as_slice.ensures) all) in
           let sat = subst (λ n. Sat v (clause_at n.now c.args.lists.now.at)) e.same (f.sound (ap Ok c.if-not-branch.false) v fits before) in
-          let known = allows_same v c.args.known.now c.follows_by.new.known f.kept.same.rep f.same fits in
+          let known = allows_same v c.args.known.now c.follows_by.new.known f.kept.rep f.same fits in
           both v c.settle.new.known _ _ (c.settle.ensures.after v known (subst (λ x. Sat v x) (sym e.read.1.0) sat)) (one_more c.args.starts.now c.push.new.self _ g.ok.0 g.ok.1 v _ all sat);
       front = one_front c.args.starts.now c.push.new.self _ g.ok.0 g.ok.1;
       grows = omega (arith, g.ok.1);

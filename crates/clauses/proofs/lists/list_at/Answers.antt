@@ -13,8 +13,7 @@ rest numbers s = ap (take (get_or numbers s 0)) (take_all (length numbers - (s +
 pub returns-then-n-rest : goal.returns-then-n-rest
 returns-then-n-rest c =
     let within : c.args.s < length c.args.numbers.now = search rules in
-    let n : c.in_ok-n.field-0.now ≡ get_or c.args.numbers.now c.args.s 0 = search rules in
-    (
+    let n : c.in_ok-n.field-0.now ≡ get_or c.args.numbers.now c.args.s 0 = search rules in (
       stands _ _ _ within n c.if-n-rest.true,
       ap (λ x. take x (take (length c.args.numbers.now - (c.args.s + 1)) (drop (c.args.s + 1) c.args.numbers.now))) n ∙ rest c.args.numbers.now c.args.s,
     )

@@ -1,9 +1,7 @@
-use Rattle.std.proofs.Common.{◌≡◌, ℕ, ◌+◌, ◌%◌, ◌/◌, ◌<◌, Bool, ◌⊎◌, List, take, length, get_or, sym, ap, ◌∙◌, subst, inl, inr, ⊎_elim, arith}
+use Rattle.std.proofs.Common.{◌≡◌, ℕ, ◌+◌, ◌%◌, ◌/◌, ◌<◌, Bool, ◌⊎◌, List, take, length, get_or, sym, ap, ◌∙◌, subst, inl, inr, ⊎_elim}
 use Rattle.std.proofs.lemmas.List.{take_more}
 use Rattle.std.proofs.lemmas.Result.{err_from_is_err_and}
 use Rattle.clauses.specs.Clauses.{bit, Sat}
-use Rattle.clauses.specs.Known.{Allows}
-use Rattle.clauses.specs.Steps.{After}
 use Rattle.clauses.proofs.Sats.{sat_take, deny_more}
 use Rattle.clauses.proofs.Trails.{kept_both}
 use Rattle.clauses.proofs.known.Known.deny.Goals as goal

@@ -1,34 +1,42 @@
-use Rattle.std.proofs.Common.{◌≡◌, ℕ, ◌+◌, ◌-◌, ◌≤◌, ◌<◌, List, length, get_or, sym, refl, ap, ◌∙◌, subst, arith}
+use Rattle.std.proofs.Common.{◌≡◌, ◌+◌, ◌-◌, refl, subst, arith}
 use Rattle.clauses.specs.Known.{Trailed}
-use Rattle.clauses.proofs.Trails.{popped, popped_inside}
+use Rattle.clauses.proofs.Trails.{trailed_pop, trailed_inside}
 use Rattle.clauses.proofs.known.Known.undo.Goals as goal
 
 pub loop-self-preserved-then-q-self : goal.loop-self-preserved-then-q-self
 loop-self-preserved-then-q-self c =
     let h = c.loop-self.invariant in
-    let e = c.in-Some.ensures in (
-      record { rep = h.0.rep; value = h.0.value; trail = e.same.0 ∙ h.0.trail },
-      e.same.1 ∙ h.1,
-      λ le. omega (arith, e.last.0, c.loop-self-test.true),
-      λ before b low t. popped before c.loop-self.self.value.now _ _ b _ _ _ e.same.1 e.last.0 e.last.1 (omega (arith, e.last.0, c.loop-self-test.true)) c.if-q-self.true (h.3 before b low t),
+    let k = c.loop-self.self in
+    let e : c.loop-self.self.depth ≡ c.loop-self.self.depth - 1 + 1 = omega (arith, c.loop-self-test.true) in (
+      h.0,
+      h.1,
+      h.2,
+      h.3,
+      λ le. omega (arith, c.loop-self-test.true),
+      λ before b low t. trailed_pop before k.value.now k.trail.now b (k.depth - 1) _ (subst (λ x. Trailed before k.value.now k.trail.now b x) e (h.5 before b low t)) (omega (arith, c.loop-self-test.true)) refl c.if-q-self.true,
     )
 
 pub loop-self-preserved : goal.loop-self-preserved
 loop-self-preserved c =
     let h = c.loop-self.invariant in
-    let e = c.in-Some.ensures in (
-      record { rep = h.0.rep; value = h.0.value; trail = e.same.0 ∙ h.0.trail },
-      e.same.1 ∙ h.1,
-      λ le. omega (arith, e.last.0, c.loop-self-test.true),
-      λ before b low t. absurd (popped_inside before c.loop-self.self.value.now _ b _ _ _ e.last.0 e.last.1 (omega (arith, e.last.0, c.loop-self-test.true)) c.if-q-self.false (h.3 before b low t)),
+    let k = c.loop-self.self in
+    let e : c.loop-self.self.depth ≡ c.loop-self.self.depth - 1 + 1 = omega (arith, c.loop-self-test.true) in (
+      h.0,
+      h.1,
+      h.2,
+      h.3,
+      λ le. omega (arith, c.loop-self-test.true),
+      λ before b low t. absurd (trailed_inside before k.value.now k.trail.now b (k.depth - 1) _ (subst (λ x. Trailed before k.value.now k.trail.now b x) e (h.5 before b low t)) (omega (arith, c.loop-self-test.true)) refl c.if-q-self.false),
     )
 
 pub returns : goal.returns
 returns c =
     let h = c.loop-self.invariant in
     record {
-      same = h.0;
-      room = h.1;
-      depth = λ le. omega (arith, h.2 le, c.loop-self-test.false);
-      undoes = λ before b low le t. h.3 before b low t;
+      rep = h.0;
+      value = h.1;
+      trail = h.2;
+      room = h.3;
+      depth = λ le. omega (arith, h.4 le, c.loop-self-test.false);
+      undoes = λ before b low le t. h.5 before b low t;
     }

@@ -1,4 +1,4 @@
-use Rattle.std.proofs.Common.{◌≡◌, ℕ, ◌+◌, ◌/◌, ◌%◌, ◌<◌, length, get_or, take, Some, sym, subst, arith}
+use Rattle.std.proofs.Common.{get_or, take, Some, sym, subst}
 use Rattle.std.proofs.lemmas.List.{take_more, take_all}
 use Rattle.clauses.specs.Known.{Resolved, Looked}
 use Rattle.clauses.proofs.look.Look.of.Goals as goal

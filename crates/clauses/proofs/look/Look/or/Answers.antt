@@ -1,4 +1,4 @@
-use Rattle.std.proofs.Common.{◌≡◌, ◌/◌, Some, subst}
+use Rattle.std.proofs.Common.{◌/◌, Some, subst}
 use Rattle.clauses.specs.Known.{Resolved, Looked}
 use Rattle.clauses.proofs.Bits.{bit_same, bit_apart}
 use Rattle.clauses.proofs.Looks.{join_known, join_first, join_again}
