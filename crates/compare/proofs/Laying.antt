@@ -62,7 +62,7 @@ rows_laid (n ∷ ns) room at x narrow s =
     )
 
 -- at the end
-module _ (ns before room : List ℕ) (at x rest next : ℕ) (narrow : Narrow ns) (l : Laid ns before room at x (length ns) rest next) where
+module _ (ns before room : List ℕ) (at x rest : ℕ) (narrow : Narrow ns) (l : Laid ns before room at x (length ns) rest) where
   pub store_laid : store_in room at ≡ parted ns (number_bits (sum ns) x)
   store_laid = ap₂ (rows_in room) l.counted (sym (add-one at)) ∙ (rows_laid ns room (at + 1) x narrow l.stand).0
 
@@ -71,9 +71,8 @@ module _ (ns before room : List ℕ) (at x rest next : ℕ) (narrow : Narrow ns)
 
 -- at the beginning
 module _ (ns room : List ℕ) (at x : ℕ) (fits : at + store_words ns ≤ length room) where
-  pub laid_none : Laid ns (set room at (length ns)) (set room at (length ns)) at x 0 x (at + 1)
+  pub laid_none : Laid ns (set room at (length ns)) (set room at (length ns)) at x 0 x
   laid_none = record {
-    from = omega arith;
     left = sym (above_none ns x);
     counted = get_or-set_same room at (length ns) 0 (omega arith);
     stand = record { sizes = λ j l. absurd (not-suc-le-zero l); bits = λ j l. absurd (not-suc-le-zero l) };
@@ -86,7 +85,7 @@ module _ (ns room : List ℕ) (at x : ℕ) (fits : at + store_words ns ≤ lengt
       same k out ∙ get_or-set_other room at k (length ns) 0 (λ e. ⊎_elim (λ low. omega arith) (λ high. omega arith) out)
 
 -- one header more
-module _ (ns before room : List ℕ) (at x i rest next : ℕ) (narrow : Narrow ns) (fits : at + store_words ns ≤ length room) (l : Laid ns before room at x i rest next) (more : i < length ns) where
+module _ (ns before room : List ℕ) (at x i rest next : ℕ) (narrow : Narrow ns) (fits : at + store_words ns ≤ length room) (l : Laid ns before room at x i rest) (from : next ≡ at + (1 + 2 * i)) (more : i < length ns) where
   n : ℕ
   n = get_or ns i 0
 
@@ -98,33 +97,32 @@ module _ (ns before room : List ℕ) (at x i rest next : ℕ) (narrow : Narrow n
 
   at_next : get_or after next 0 ≡ get_or ns i 0
   unfolding after
-  at_next = get_or-set_other (set room next (get_or ns i 0)) (next + 1) next piece 0 (λ e. omega arith) ∙ get_or-set_same room next (get_or ns i 0) 0 (omega (arith, l.from))
+  at_next = get_or-set_other (set room next (get_or ns i 0)) (next + 1) next piece 0 (λ e. omega arith) ∙ get_or-set_same room next (get_or ns i 0) 0 (omega (arith, from))
 
   at_bits : get_or after (next + 1) 0 ≡ above ns i x % 2 ^ get_or ns i 0
   unfolding after piece
   at_bits =
-      get_or-set_same (set room next (get_or ns i 0)) (next + 1) piece 0 (omega (arith, l.from, length-set room next (get_or ns i 0)))
+      get_or-set_same (set room next (get_or ns i 0)) (next + 1) piece 0 (omega (arith, from, length-set room next (get_or ns i 0)))
       ∙ ap (λ m. bit_and rest (m - 1)) (one_shl (get_or ns i 0) 64 (narrow i more).1) ∙ and_mask rest (get_or ns i 0) ∙ ap (λ y. y % 2 ^ get_or ns i 0) l.left
 
   elsewhere : (k : ℕ) → (k ≡ next → ⊥) → (k ≡ next + 1 → ⊥) → get_or after k 0 ≡ get_or room k 0
   unfolding after
   elsewhere k p q = get_or-set_other (set room next (get_or ns i 0)) (next + 1) k piece 0 q ∙ get_or-set_other room next k (get_or ns i 0) 0 p
 
-  pub laid_more : Laid ns before (set (set room next (get_or ns i 0)) (next + 1) (bit_and rest ((1 * 2 ^ get_or ns i 0) % 18446744073709551616 - 1))) at x (i + 1) (rest / 2 ^ get_or ns i 0) (next + 2)
+  pub laid_more : Laid ns before (set (set room next (get_or ns i 0)) (next + 1) (bit_and rest ((1 * 2 ^ get_or ns i 0) % 18446744073709551616 - 1))) at x (i + 1) (rest / 2 ^ get_or ns i 0)
   unfolding after piece
   laid_more = record {
-    from = omega (arith, l.from);
     left = ap (λ y. y / 2 ^ get_or ns i 0) l.left ∙ sym (above_more ns i x more) ∙ ap (λ j. above ns j x) (sym (add-one i));
-    counted = elsewhere at (λ e. omega (arith, l.from)) (λ e. omega (arith, l.from)) ∙ l.counted;
+    counted = elsewhere at (λ e. omega (arith, from)) (λ e. omega (arith, from)) ∙ l.counted;
     stand = record {
       sizes = λ j below. ⊎_elim
-          (λ (e : j ≡ i). let here : (at + 1) + 2 * j ≡ next = omega (arith, l.from) in ap (λ k. get_or after k 0) here ∙ at_next ∙ ap (λ k. get_or ns k 0) (sym e))
-          (λ (ne : j ≡ i → ⊥). elsewhere ((at + 1) + 2 * j) (λ e. ne (omega (arith, l.from))) (λ e. omega (arith, l.from)) ∙ l.stand.sizes j (omega arith))
+          (λ (e : j ≡ i). let here : (at + 1) + 2 * j ≡ next = omega (arith, from) in ap (λ k. get_or after k 0) here ∙ at_next ∙ ap (λ k. get_or ns k 0) (sym e))
+          (λ (ne : j ≡ i → ⊥). elsewhere ((at + 1) + 2 * j) (λ e. ne (omega (arith, from))) (λ e. omega (arith, from)) ∙ l.stand.sizes j (omega arith))
           (cases_eq j i);
       bits = λ j below. ⊎_elim
-          (λ (e : j ≡ i). let here : suc ((at + 1) + 2 * j) ≡ next + 1 = omega (arith, l.from) in ap (λ k. get_or after k 0) here ∙ at_bits ∙ ap (λ k. above ns k x % 2 ^ get_or ns k 0) (sym e))
-          (λ (ne : j ≡ i → ⊥). elsewhere (suc ((at + 1) + 2 * j)) (λ e. omega (arith, l.from)) (λ e. ne (omega (arith, l.from))) ∙ l.stand.bits j (omega arith))
+          (λ (e : j ≡ i). let here : suc ((at + 1) + 2 * j) ≡ next + 1 = omega (arith, from) in ap (λ k. get_or after k 0) here ∙ at_bits ∙ ap (λ k. above ns k x % 2 ^ get_or ns k 0) (sym e))
+          (λ (ne : j ≡ i → ⊥). elsewhere (suc ((at + 1) + 2 * j)) (λ e. omega (arith, from)) (λ e. ne (omega (arith, from))) ∙ l.stand.bits j (omega arith))
           (cases_eq j i);
     };
-    others = λ k out. elsewhere k (λ e. ⊎_elim (λ low. omega (arith, l.from)) (λ high. omega (arith, l.from)) out) (λ e. ⊎_elim (λ low. omega (arith, l.from)) (λ high. omega (arith, l.from)) out) ∙ l.others k out;
+    others = λ k out. elsewhere k (λ e. ⊎_elim (λ low. omega (arith, from)) (λ high. omega (arith, from)) out) (λ e. ⊎_elim (λ low. omega (arith, from)) (λ high. omega (arith, from)) out) ∙ l.others k out;
   }

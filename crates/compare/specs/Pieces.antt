@@ -24,9 +24,8 @@ store_words ns = 1 + 2 * length ns
 abbrev pub Outside : List ℕ → ℕ → List ℕ → List ℕ → Type 0
 Outside ns at before after = (k : ℕ) → (k < at) ⊎ (at + store_words ns ≤ k) → slice_index after k ≡ slice_index before k
 
--- the first i headers are written, and `rest` are the bits of those that follow, which stand from `next` on
-pub record Laid (ns before room : List ℕ) (at x i rest next : ℕ) : Type 0 where
-  pub from : next ≡ at + (1 + 2 * i)
+-- the first i headers are written, and `rest` are the bits of those that follow
+pub record Laid (ns before room : List ℕ) (at x i rest : ℕ) : Type 0 where
   pub left : rest ≡ above ns i x
   pub counted : slice_index_or room at 0 ≡ length ns
   pub stand : Stand ns room (at + 1) x i

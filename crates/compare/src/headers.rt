@@ -50,11 +50,10 @@ fn write_store(room: &mut [u64], at: usize, sizes: &[u16], contents: u64)
 {
     room[at] = sizes.len() as u64;
     let mut rest = contents;
-    let mut next = at + 1;
-    for size in sizes {
+    for (i, size) in sizes.iter().enumerate() {
+        let next = at + 1 + 2 * i;
         room[next] = *size as u64;
         room[next + 1] = rest & ((1 << *size) - 1);
         rest >>= *size;
-        next += 2;
     }
 }

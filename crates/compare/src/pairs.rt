@@ -6,8 +6,9 @@ ghost use Rattle.reply.specs.View.{answer_of};
 ghost use Rattle.compare.specs.Budget.{Told, room_for};
 
 use crate::headers::{header_words, write_headers};
+use budget::Work;
 use product::Product;
-use reach::{Found, sweep};
+use reach::sweep;
 use reply::Answer;
 
 // `left` is what is left of the room; it is told with the answer.
@@ -15,26 +16,22 @@ pub(crate) fn sweep_pairs(product: &Product, work: u64, left: u64, room: &mut [u
     requires { room_for (pair_count (comparison_of product.now)) + 65536 ≤ length room.old }
     ensures { Told (comparison_of product.now) work left (answer_of room.new result) }
 {
-    let first = header_words(&product.first.side);
-    let second = header_words(&product.second.side);
-    let ended = sweep(product, work, room, first + second);
-    match ended.found {
-        Found::Clean => Answer::Alike {
-            work: ended.work,
-            room: left,
-        },
-        Found::Reached { start, at } => {
-            let at = at - (first + second) as usize;
-            write_headers(product, start, room, at);
-            Answer::Unlike {
-                at,
-                work: ended.work,
-                room: left,
-            }
-        }
-        Found::Exhausted => Answer::Neither {
-            work: ended.work,
-            room: left,
-        },
+    let gap = header_words(&product.first.side) + header_words(&product.second.side);
+    let mut spare = Work { left: work };
+    let found = sweep(product, &mut spare, room, gap);
+    let work = spare.left;
+    let Ok(found) = found else {
+        return Answer::Neither { work, room: left };
+    };
+    let Some(reached) = found else {
+        return Answer::Alike { work, room: left };
+    };
+    // the headers fill the gap before the message
+    let at = reached.at - gap as usize;
+    write_headers(product, reached.start, room, at);
+    Answer::Unlike {
+        at,
+        work,
+        room: left,
     }
 }

@@ -1,7 +1,7 @@
 -- How many numbers a set leaves out. Assumes nothing.
 use Rattle.std.proofs.Common.{◌≡◌, ℕ, zero, suc, ◌+◌, ◌<◌, ◌≤◌, Bool, true, false, refl, ap, ◌∙◌, ⊎_elim, arith}
 use Rattle.std.proofs.lemmas.Bool.{cases_eq}
-use Rattle.reach.specs.Tables.{blanks, lack}
+use Rattle.reach.specs.Sets.{blanks, lack}
 
 pub blanks_all : (f : ℕ → Bool) → ((x : ℕ) → f x ≡ false) → (n : ℕ) → blanks f n ≡ n
 unfolding blanks

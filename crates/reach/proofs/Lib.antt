@@ -1,7 +1,5 @@
-pub mod Members
-pub mod Entries
+pub mod Slots
 pub mod Counts
-pub mod Pushes
 pub mod Turns
 pub mod Explorations
 pub mod Spellings

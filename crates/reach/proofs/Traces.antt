@@ -1,36 +1,15 @@
 -- What a turn of the way back keeps. Assumes nothing.
-use Rattle.std.proofs.Common.{◌≡◌, ℕ, suc, ◌+◌, ◌-◌, ◌*◌, ◌/◌, ◌%◌, ◌<◌, ◌≤◌, Bool, true, false, ◌&&◌, eqb, List, ◌∷◌, sym, refl, ap, ◌∙◌, subst, inr, ⊎_elim, arith}
+use Rattle.std.proofs.Common.{◌≡◌, ℕ, suc, ◌+◌, ◌-◌, ◌/◌, ◌%◌, ◌<◌, ◌≤◌, Bool, true, false, ◌&&◌, eqb, ◌∷◌, sym, refl, ap, ◌∙◌, subst, ⊎_elim, arith}
 use mathlib.Core.Bool.{beq}
 use Rattle.std.proofs.lemmas.Bool.{cases_eq, cases_lt, and_left, and_parts, eqb-true, false≢true}
 use Rattle.reach.specs.Model.{Model, follow}
-use Rattle.reach.specs.Tables.{seen, odd_in, path, entry}
-use Rattle.reach.specs.Held.{conf, by_bit, differ, steps, Begins, Held, Changed}
+use Rattle.reach.specs.Tables.{seen, odd_in, path, entry, Changed, Marked}
+use Rattle.reach.specs.Held.{conf, by_bit, differ, steps, Begins, Held}
 use Rattle.reach.specs.Phases.{Caught}
 use Rattle.reach.specs.Ways.{spelled, WayFrom}
 use Rattle.reach.specs.Tracing.{Tracing}
-use Rattle.reach.specs.declared.plan.Plan.{Plan}
-use Rattle.reach.proofs.Members.{member_one, member_others, member_apart}
-use Rattle.reach.proofs.Entries.{entry_kept}
-use Rattle.reach.proofs.Pushes.{Put}
+use Rattle.reach.specs.declared.tables.Tables.{Tables}
 use Rattle.reach.proofs.Spellings.{spelled_skip, spelled-take, spelled_none, spelled_same}
-
--- entry k is marked, and nothing else changes
-pub record Marked (p : Plan) (room room' : List ℕ) (k : ℕ) : Type 0 where
-  pub sees : seen p room' ≡ seen p room
-  pub odds : odd_in p room' ≡ odd_in p room
-  pub entries : entry p room' ≡ entry p room
-  pub paths : Changed Bool (path p room) (path p room') k true
-
-pub marked_put : (p : Plan) (room room' : List ℕ) (k : ℕ) → k < 64 * p.words → Put room room' (2 * p.words) k true → Marked p room room' k
-marked_put p room room' k l put = record {
-  sees = member_apart 0 p.words room room' (64 * (2 * p.words) + k) put.others (inr (omega arith));
-  odds = member_apart p.words p.words room room' (64 * (2 * p.words) + k) put.others (inr (omega arith));
-  entries = entry_kept p room room' (λ i above. put.rest i (λ s. omega arith));
-  paths = record {
-    here = member_one (2 * p.words) p.words room' k l put.here;
-    others = member_others (2 * p.words) p.words room room' (64 * (2 * p.words) + k) put.others k refl;
-  };
-}
 
 steps_to : (m : Model) (odd : ℕ → Bool) (e : ℕ → ℕ) (j k : ℕ) → steps m odd e j k ≡ true → m.next (conf e j) (by_bit e k) ≡ conf e k
 unfolding steps
@@ -63,14 +42,14 @@ module _ (m : Model) (sn odd : ℕ → Bool) (e : ℕ → ℕ) (roots last : ℕ
         (cases_lt w.1.0 j))
         (h.held.origin k (omega (arith, h.under)))
 
-    pub tracing_past : 0 < j → steps m odd e (j - 1) k ≡ false → Tracing m sn odd e on roots last k (j - 1)
+    pub tracing_past : 0 < j → false ≡ steps m odd e (j - 1) k → Tracing m sn odd e on roots last k (j - 1)
     tracing_past some fails = record {
       held = h.held;
       wrong = h.wrong;
       order = omega (arith, h.order);
       under = h.under;
       none = λ x l r. ⊎_elim
-          (λ (s : x ≡ j - 1). ap (λ y. steps m odd e y k) s ∙ fails)
+          (λ (s : x ≡ j - 1). ap (λ y. steps m odd e y k) s ∙ sym fails)
           (λ (ne : x ≡ j - 1 → ⊥). h.none x (omega arith) r)
           (cases_eq x (j - 1));
       marked = h.marked;
@@ -107,30 +86,33 @@ module _ (m : Model) (sn odd : ℕ → Bool) (e : ℕ → ℕ) (roots last : ℕ
             ∙ h.led;
       }
 
-abbrev pub TracingIn : Model → Plan → List ℕ → ℕ → ℕ → ℕ → ℕ → Type 0
-TracingIn m p room roots last k j = Tracing m (seen p room) (odd_in p room) (entry p room) (path p room) roots last k j
+abbrev pub TracingIn : Model → Tables → ℕ → ℕ → ℕ → ℕ → Type 0
+TracingIn m t roots last k j = Tracing m (seen t) (odd_in t) (entry t) (path t) roots last k j
 
-module _ (m : Model) (p : Plan) (room room' : List ℕ) (roots last : ℕ) where
-  moved : (i k j : ℕ) → Marked p room room' i → Tracing m (seen p room) (odd_in p room) (entry p room) (path p room') roots last k j → TracingIn m p room' roots last k j
+module _ (m : Model) (t t' : Tables) (roots last : ℕ) where
+  moved : (i k j : ℕ) → Marked t t' i → Tracing m (seen t) (odd_in t) (entry t) (path t') roots last k j → TracingIn m t' roots last k j
   moved i k j mark h =
-      subst (λ f. Tracing m f (odd_in p room') (entry p room') (path p room') roots last k j) (sym mark.sees)
-      (subst (λ f. Tracing m (seen p room) f (entry p room') (path p room') roots last k j) (sym mark.odds)
-      (subst (λ f. Tracing m (seen p room) (odd_in p room) f (path p room') roots last k j) (sym mark.entries) h))
+      subst (λ f. Tracing m f (odd_in t') (entry t') (path t') roots last k j) (sym mark.sees)
+      (subst (λ f. Tracing m (seen t) f (entry t') (path t') roots last k j) (sym mark.odds)
+      (subst (λ f. Tracing m (seen t) (odd_in t) f (path t') roots last k j) (sym mark.entries) h))
 
-  pub trace_first : Caught m p room roots last → Marked p room room' last → TracingIn m p room' roots last last last
-  trace_first caught mark = moved last last last mark (tracing_first m (seen p room) (odd_in p room) (entry p room) roots last (path p room) (path p room') caught.held caught.wrong caught.unmarked mark.paths)
+  pub trace_first : Caught m t roots last → Marked t t' last → TracingIn m t' roots last last last
+  trace_first caught mark =
+      moved last last last mark
+      (tracing_first m (seen t) (odd_in t) (entry t) roots last (path t) (path t') (subst (Held m (seen t) (odd_in t) (entry t) roots) caught.tail caught.held) caught.wrong caught.unmarked mark.paths)
 
-  pub trace_step : (k j : ℕ) → TracingIn m p room roots last k j → 0 < j → steps m (odd_in p room) (entry p room) (j - 1) k ≡ true → Marked p room room' (j - 1) → TracingIn m p room' roots last (j - 1) (j - 1)
+  pub trace_step : (k j : ℕ) → TracingIn m t roots last k j → 0 < j → true ≡ steps m (odd_in t) (entry t) (j - 1) k → Marked t t' (j - 1) → TracingIn m t' roots last (j - 1) (j - 1)
   trace_step k j h some does mark =
       moved (j - 1) (j - 1) (j - 1) mark
-      (tracing_step m (seen p room) (odd_in p room) (entry p room) roots last (path p room) k j h (path p room') (j - 1) (omega (arith, h.order)) mark.paths does)
+      (tracing_step m (seen t) (odd_in t) (entry t) roots last (path t) k j h (path t') (j - 1) (omega (arith, h.order)) mark.paths (sym does))
 
-pub trace_all : (m : Model) (p : Plan) (room : List ℕ) (roots last k j : ℕ) → TracingIn m p room roots last k j → k < roots → WayFrom m p room last k
-trace_all m p room roots last k j h root = record {
+pub trace_all : (m : Model) (t : Tables) (roots last k j : ℕ) → TracingIn m t roots last k j → last < t.count → k < roots → WayFrom m t last k
+trace_all m t roots last k j h inside root = record {
   below = h.under;
+  inside = inside;
   begins = ⊎_elim
-      (λ (w : (k < roots) × Begins m (conf (entry p room) k)). w.1)
-      (λ (w : (roots ≤ k) × ((i : ℕ) × (i < k) × (steps m (odd_in p room) (entry p room) i k ≡ true))). absurd (omega (arith, w.0)))
+      (λ (w : (k < roots) × Begins m (conf (entry t) k)). w.1)
+      (λ (w : (roots ≤ k) × ((i : ℕ) × (i < k) × (steps m (odd_in t) (entry t) i k ≡ true))). absurd (omega (arith, w.0)))
       (h.held.origin k (omega (arith, h.under)));
   ends = ap m.bad h.led ∙ h.wrong;
   top = h.top;

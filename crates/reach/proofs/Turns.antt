@@ -1,13 +1,12 @@
 -- What a turn of the search keeps. Assumes nothing.
-use Rattle.std.proofs.Common.{◌≡◌, ℕ, ◌+◌, ◌*◌, ◌/◌, ◌%◌, ◌<◌, ◌≤◌, Bool, true, false, not, eqb, List, sym, refl, ap, ◌∙◌, subst, inl, inr, ⊎_elim, arith}
+use Rattle.std.proofs.Common.{◌≡◌, ℕ, ◌+◌, ◌*◌, ◌/◌, ◌%◌, ◌<◌, ◌≤◌, Bool, true, false, not, eqb, sym, refl, ap, ◌∙◌, subst, inl, inr, ⊎_elim, arith}
 use Rattle.std.proofs.lemmas.Bool.{cases_eq, and_from, eq-eqb, false≢true}
 use Rattle.reach.specs.Model.{Model}
-use Rattle.reach.specs.Tables.{seen, odd_in, entry}
-use Rattle.reach.specs.Held.{conf, by_bit, differ, steps, Begins, Origin, Held, Waits, Swept, Changed, Pushed}
-use Rattle.reach.specs.Phases.{Zeroed, Unmarked, Going, Caught}
-use Rattle.reach.specs.declared.plan.Plan.{Plan}
+use Rattle.reach.specs.Tables.{seen, odd_in, entry, Changed, Empty, Pushed, Unmarked}
+use Rattle.reach.specs.Held.{conf, by_bit, differ, steps, Begins, Origin, Held, Waits, Swept}
+use Rattle.reach.specs.Phases.{Going, Caught}
+use Rattle.reach.specs.declared.tables.Tables.{Tables}
 use Rattle.reach.proofs.Counts.{blanks_all, blanks_fall, blanks_some}
-use Rattle.reach.proofs.Members.{member_none}
 
 differ_not : (a : Bool) → differ a (not a) ≡ true
 differ_not true = refl
@@ -141,41 +140,47 @@ pub room_left : (m : Model) (sn odd : ℕ → Bool) (e : ℕ → ℕ) (roots tai
 room_left m sn odd e roots tail q h off below = omega (arith, h.spare, blanks_some sn q off m.count below)
 
 -- nothing was seen yet
-pub going_none : (m : Model) (p : Plan) (room : List ℕ) → Zeroed room (3 * p.words) → Going m p room m.count 0 0 0
-going_none m p room zeros =
-    let none : (x : ℕ) → seen p room x ≡ false = member_none 0 p.words room (λ i l. zeros i (omega arith)) in
-    record {
-      held = record {
-        inside = λ k l. absurd (omega arith);
-        good = λ k l. absurd (omega arith);
-        origin = λ k l. absurd (omega arith);
-        spare = omega (arith, blanks_all (seen p room) none m.count);
-      };
-      swept = record {
-        begins = λ i l. absurd (omega arith);
-        fine = λ x on. absurd (false≢true (sym (none x) ∙ on));
-        closed = λ x b on l. absurd (false≢true (sym (none x) ∙ on));
-      };
-      unmarked = member_none (2 * p.words) p.words room (λ i l. zeros i (omega arith));
-    }
+pub going_none : (m : Model) (t : Tables) → Empty t m.count → Going m t m.count 0 0
+going_none m t none = record {
+  size = none.size;
+  held = record {
+    inside = λ k l. absurd (omega (arith, none.tail));
+    good = λ k l. absurd (omega (arith, none.tail));
+    origin = λ k l. absurd (omega (arith, none.tail));
+    spare = omega (arith, none.tail, blanks_all (seen t) none.unseen m.count);
+  };
+  swept = record {
+    begins = λ i l. absurd (omega arith);
+    fine = λ x on. absurd (false≢true (sym (none.unseen x) ∙ on));
+    closed = λ x b on l. absurd (false≢true (sym (none.unseen x) ∙ on));
+  };
+  unmarked = none.unmarked;
+}
 
 -- q comes into the queue
-module _ (m : Model) (p : Plan) (room room' : List ℕ) (roots tail q b begun done : ℕ) (parity : Bool) (small : b < 2) (h : Going m p room roots tail begun done) (pushed : Pushed p room room' tail q (2 * q + b) parity) (off : seen p room q ≡ false) (below : q < m.count) (good : m.good q ≡ true) (from : Origin m (odd_in p room') (entry p room') roots tail) where
-  held_after : Held m (seen p room') (odd_in p room') (entry p room') roots (tail + 1)
-  held_after = held_push m (seen p room) (seen p room') (odd_in p room) (odd_in p room') (entry p room) (entry p room') tail q b parity small pushed.sees pushed.parities pushed.entries roots h.held off below good from
+module _ (m : Model) (t t' : Tables) (roots q b begun done : ℕ) (parity : Bool) (small : b < 2) (h : Going m t roots begun done) (pushed : Pushed t t' q (2 * q + b) parity) (off : seen t q ≡ false) (below : q < m.count) (good : m.good q ≡ true) (from : Origin m (odd_in t') (entry t') roots t.tail) where
+  held_after : Held m (seen t') (odd_in t') (entry t') roots t'.tail
+  held_after =
+      subst (Held m (seen t') (odd_in t') (entry t') roots) (sym pushed.tail)
+      (held_push m (seen t) (seen t') (odd_in t) (odd_in t') (entry t) (entry t') t.tail q b parity small pushed.sees pushed.parities pushed.entries roots h.held off below good from)
 
-  unmarked_after : Unmarked p room'
+  unmarked_after : Unmarked t'
   unmarked_after x = ap (λ f. f x) pushed.paths ∙ h.unmarked x
 
-  pub going_push : done ≤ 2 * tail → m.bad q ≡ false → Going m p room' roots (tail + 1) begun done
+  pub going_push : done ≤ 2 * t.tail → m.bad q ≡ false → Going m t' roots begun done
   going_push early fine = record {
+    size = pushed.size ∙ h.size;
     held = held_after;
-    swept = swept_push m (seen p room) (seen p room') (odd_in p room) (odd_in p room') (entry p room) (entry p room') tail q b parity small pushed.sees pushed.parities pushed.entries begun done h.swept early fine;
+    swept =
+        subst (λ n. Swept m (seen t') (entry t') n begun done) (sym pushed.tail)
+        (swept_push m (seen t) (seen t') (odd_in t) (odd_in t') (entry t) (entry t') t.tail q b parity small pushed.sees pushed.parities pushed.entries begun done h.swept early fine);
     unmarked = unmarked_after;
   }
 
-  pub caught_push : m.bad q ≡ true → Caught m p room' roots tail
+  pub caught_push : m.bad q ≡ true → Caught m t' roots t.tail
   caught_push wrong = record {
+    size = pushed.size ∙ h.size;
+    tail = pushed.tail;
     held = held_after;
     wrong = ap (λ x. m.bad (x / 2)) pushed.entries.here ∙ ap m.bad (let e : (2 * q + b) / 2 ≡ q = omega arith in e) ∙ wrong;
     unmarked = unmarked_after;

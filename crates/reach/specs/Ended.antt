@@ -1,9 +1,9 @@
 -- How an exhaustive sweep ends, and what is enough for it. Assumes nothing.
-use Rattle.std.specs.Prelude.{◌≡◌, ℕ, suc, ◌+◌, ◌*◌, ◌/◌, ◌<◌, ◌≤◌, cond, ◌⊎◌, List, length, nat_le, slice_index}
+use Rattle.std.specs.Prelude.{◌≡◌, ℕ, suc, ◌+◌, ◌*◌, ◌/◌, ◌<◌, ◌≤◌, cond, ◌⊎◌, List, length, nat_le, Some, None, Option, Ok, Err, Result, slice_index}
+use Rattle.budget.specs.declared.Exhausted.{Exhausted}
 use Rattle.rows.specs.Row.{row_in}
 use Rattle.reach.specs.Model.{Model, Safe, Leads}
-use Rattle.reach.specs.declared.exhaustive.Found.{Found}
-use Rattle.reach.specs.declared.exhaustive.Found.TheVariants.{Clean, Reached, Exhausted}
+use Rattle.reach.specs.declared.exhaustive.Reached.{Reached}
 
 -- how many words a set of the numbers below n takes
 abbrev pub sets_words : ℕ → ℕ
@@ -21,7 +21,7 @@ abbrev pub turns_for : ℕ → ℕ
 turns_for n = 6 * n + 8
 
 -- the sweep of m, with so much work at first and so much left, leaves the room so
-abbrev pub Ended : Model → ℕ → ℕ → ℕ → List ℕ → Found → Type 0
-Ended m work left gap room Clean = Safe m
-Ended m work left gap room (Reached start at) = Leads m start (row_in room at) × (at ≡ table_words m.count + gap) × (slice_index room at ≤ m.count)
-Ended m work left gap room Exhausted = ((left ≡ 0) × (work < turns_for m.count)) ⊎ (length room < words_for m.count gap)
+abbrev pub Ended : Model → ℕ → ℕ → ℕ → List ℕ → Result (Option Reached) Exhausted → Type 0
+Ended m work left gap room (Ok None) = Safe m
+Ended m work left gap room (Ok (Some r)) = Leads m r.start (row_in room r.at) × (r.at ≡ table_words m.count + gap) × (slice_index room r.at ≤ m.count)
+Ended m work left gap room (Err e) = ((left ≡ 0) × (work < turns_for m.count)) ⊎ ((left ≡ work) × (length room < words_for m.count gap))

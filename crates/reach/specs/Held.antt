@@ -1,8 +1,7 @@
 -- What a sweep holds between two turns, in terms of sets and of the queue as functions. Assumes nothing.
-use Rattle.std.specs.Prelude.{◌≡◌, ℕ, ◌+◌, ◌*◌, ◌/◌, ◌%◌, ◌<◌, ◌≤◌, Bool, true, false, cond, not, ◌&&◌, ◌⊎◌, List, ◌==◌, ◌≢◌}
+use Rattle.std.specs.Prelude.{◌≡◌, ℕ, ◌+◌, ◌*◌, ◌/◌, ◌%◌, ◌<◌, ◌≤◌, Bool, true, false, cond, not, ◌&&◌, ◌⊎◌, ◌==◌}
 use Rattle.reach.specs.Model.{Model}
-use Rattle.reach.specs.Tables.{seen, odd_in, path, entry, blanks}
-use Rattle.reach.specs.declared.plan.Plan.{Plan}
+use Rattle.reach.specs.Sets.{blanks}
 
 -- an entry is twice a configuration, and the bit that it was reached by
 abbrev pub conf : (ℕ → ℕ) → ℕ → ℕ
@@ -41,15 +40,3 @@ pub record Swept (m : Model) (seen : ℕ → Bool) (e : ℕ → ℕ) (tail begun
   pub begins : (i : ℕ) → i < begun → seen (m.start i) ≡ true
   pub fine : (p : ℕ) → seen p ≡ true → m.bad p ≡ false
   pub closed : (p b : ℕ) → seen p ≡ true → b < 2 → (seen (m.next p b) ≡ true) ⊎ Waits e tail done p b
-
--- at one place only, and there it is v
-pub record Changed (A : Type 0) (f f' : ℕ → A) (at : ℕ) (v : A) : Type 0 where
-  pub here : f' at ≡ v
-  pub others : (x : ℕ) → (x ≢ at) → f' x ≡ f x
-
--- configuration q is seen and stands at the end of the queue
-pub record Pushed (p : Plan) (room room' : List ℕ) (tail q v : ℕ) (parity : Bool) : Type 0 where
-  pub sees : Changed Bool (seen p room) (seen p room') q true
-  pub parities : Changed Bool (odd_in p room) (odd_in p room') tail parity
-  pub entries : Changed ℕ (entry p room) (entry p room') tail v
-  pub paths : path p room' ≡ path p room

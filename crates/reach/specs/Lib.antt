@@ -1,5 +1,7 @@
 pub mod Model
 pub mod Ended
+pub mod Layouts
+pub mod Sets
 pub mod Tables
 pub mod Held
 pub mod Phases

@@ -1,12 +1,13 @@
--- How a part of a sweep ends that may take so many turns at most. Assumes nothing.
-use Rattle.std.specs.Prelude.{◌≡◌, ℕ, ◌<◌, ◌≤◌, List, slice_index}
+-- How the search in a room that is large enough ends. Assumes nothing.
+use Rattle.std.specs.Prelude.{ℕ, ◌≤◌, List, Some, None, Option, Ok, Err, Result, slice_index}
+use Rattle.budget.specs.declared.Exhausted.{Exhausted}
 use Rattle.rows.specs.Row.{row_in}
 use Rattle.reach.specs.Model.{Model, Safe, Leads}
-use Rattle.reach.specs.declared.exhaustive.Found.{Found}
-use Rattle.reach.specs.declared.exhaustive.Found.TheVariants.{Clean, Reached, Exhausted}
+use Rattle.reach.specs.Ended.{turns_for}
+use Rattle.reach.specs.Phases.{Short}
 
--- the message is to stand at the word `place`
-abbrev pub Sought : Model → ℕ → ℕ → ℕ → ℕ → List ℕ → Found → Type 0
-Sought m most work left place room Clean = Safe m
-Sought m most work left place room (Reached start at) = Leads m start (row_in room at) × (at ≡ place) × (slice_index room at ≤ m.count)
-Sought m most work left place room Exhausted = (left ≡ 0) × (work < most)
+-- the message is to stand at the first of these words
+abbrev pub Sought : Model → ℕ → ℕ → List ℕ → Result (Option ℕ) Exhausted → Type 0
+Sought m work left message (Ok None) = Safe m
+Sought m work left message (Ok (Some start)) = Leads m start (row_in message 0) × (slice_index message 0 ≤ m.count)
+Sought m work left message (Err e) = Short work left (turns_for m.count)

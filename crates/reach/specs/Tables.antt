@@ -1,73 +1,53 @@
--- How the tables of a sweep stand in the room: three sets, and a queue with one entry to a word, or three of 21 bits. Assumes nothing.
-use Rattle.std.specs.Prelude.{ℕ, zero, suc, ◌+◌, ◌-◌, ◌*◌, ◌/◌, ◌%◌, ◌^◌, ◌≤◌, Bool, cond, ◌&&◌, List, ◌==◌, nat_le, nat_lt, slice_index}
-use Rattle.rows.specs.Row.{bit_in}
-use Rattle.reach.specs.Ended.{sets_words}
-use Rattle.reach.specs.declared.plan.Layout.{Layout}
-use Rattle.reach.specs.declared.plan.Layout.TheVariants.{Packed, Plain}
-use Rattle.reach.specs.declared.plan.Plan.{Plan}
-
--- the set that stands in so many words from `base` on
-unfoldable pub member : ℕ → ℕ → List ℕ → ℕ → Bool
-member base words room k = nat_lt k (64 * words) && bit_in room (64 * base + k) == 1
+-- What the tables of a sweep hold, and what a write to them does. Assumes nothing.
+use Rattle.std.specs.Prelude.{◌≡◌, ℕ, ◌+◌, Bool, true, false, ◌≢◌}
+use Rattle.reach.specs.Sets.{member}
+use Rattle.reach.specs.Layouts.{entry_in}
+use Rattle.reach.specs.declared.tables.Tables.{Tables}
 
 -- the configurations that were seen
-abbrev pub seen : Plan → List ℕ → ℕ → Bool
-seen p room = member 0 p.words room
+abbrev pub seen : Tables → ℕ → Bool
+seen t = member t.seen.now
 
 -- the entries at an odd depth
-abbrev pub odd_in : Plan → List ℕ → ℕ → Bool
-odd_in p room = member p.words p.words room
+abbrev pub odd_in : Tables → ℕ → Bool
+odd_in t = member t.odd.now
 
 -- the entries on the way to a bad one
-abbrev pub path : Plan → List ℕ → ℕ → Bool
-path p room = member (2 * p.words) p.words room
-
-abbrev pub lack : Bool → ℕ
-lack b = cond b 0 1
-
--- how many numbers below n the set leaves out
-unfoldable pub blanks : (ℕ → Bool) → ℕ → ℕ
-blanks f zero = 0
-blanks f (suc n) = lack (f n) + blanks f n
-
--- the 21 bits at place i of a word
-abbrev pub slot : ℕ → ℕ → ℕ
-slot w zero = w % 2097152
-slot w (suc zero) = w / 2097152 % 2097152
-slot w (suc (suc i)) = w / 4398046511104 % 2097152
-
-abbrev pub entry_in : Layout → ℕ → List ℕ → ℕ → ℕ
-entry_in Packed base room k = slot (slice_index room (base + k / 3)) (k % 3)
-entry_in Plain base room k = slice_index room (base + k)
+abbrev pub path : Tables → ℕ → Bool
+path t = member t.way.now
 
 -- what stands at place k of the queue
-unfoldable pub entry : Plan → List ℕ → ℕ → ℕ
-entry p room k = entry_in p.layout (3 * p.words) room k
+abbrev pub entry : Tables → ℕ → ℕ
+entry t = entry_in t.layout t.queue.now
 
--- how many entries so many words have room for
-abbrev pub cap_of : Layout → ℕ → ℕ
-cap_of Packed n = 3 * n
-cap_of Plain n = n
+abbrev pub Unmarked : Tables → Type 0
+Unmarked t = (x : ℕ) → path t x ≡ false
 
-abbrev pub cap : Plan → ℕ → ℕ
-cap p words = cap_of p.layout (words - 3 * p.words)
+-- tables for n configurations, of which none was seen
+pub record Empty (t : Tables) (n : ℕ) : Type 0 where
+  pub size : t.count ≡ n
+  pub tail : t.tail ≡ 0
+  pub unseen : (x : ℕ) → seen t x ≡ false
+  pub unmarked : Unmarked t
 
--- an entry is below it
-abbrev pub width_of : Layout → ℕ
-width_of Packed = 2097152
-width_of Plain = 2 ^ 62
+-- at one place only, and there it is v
+pub record Changed (A : Type 0) (f f' : ℕ → A) (at : ℕ) (v : A) : Type 0 where
+  pub here : f' at ≡ v
+  pub others : (x : ℕ) → (x ≢ at) → f' x ≡ f x
 
-abbrev pub layout_for : ℕ → Layout
-layout_for n = cond (nat_le n 1048576) Packed Plain
+-- configuration q is seen and stands at the end of the queue
+pub record Pushed (t t' : Tables) (q v : ℕ) (parity : Bool) : Type 0 where
+  pub size : t'.count ≡ t.count
+  pub tail : t'.tail ≡ t.tail + 1
+  pub sees : Changed Bool (seen t) (seen t') q true
+  pub parities : Changed Bool (odd_in t) (odd_in t') t.tail parity
+  pub entries : Changed ℕ (entry t) (entry t') t.tail v
+  pub paths : path t' ≡ path t
 
-abbrev pub plan_for : ℕ → Plan
-plan_for n = record { words = sets_words n; layout = layout_for n }
-
--- so many words have room for the tables of a sweep among n configurations
-pub record Laid (n : ℕ) (p : Plan) (words : ℕ) : Type 0 where
-  pub few : n ≤ 2 ^ 60
-  pub narrow : p.words ≤ 2 ^ 54
-  pub wide : n ≤ 64 * p.words
-  pub small : 2 * n ≤ width_of p.layout
-  pub sets : 3 * p.words ≤ words
-  pub deep : n ≤ cap p words
+-- entry k is marked, and nothing else changes
+pub record Marked (t t' : Tables) (k : ℕ) : Type 0 where
+  pub size : t'.count ≡ t.count
+  pub sees : seen t' ≡ seen t
+  pub odds : odd_in t' ≡ odd_in t
+  pub entries : entry t' ≡ entry t
+  pub paths : Changed Bool (path t) (path t') k true

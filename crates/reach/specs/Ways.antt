@@ -1,36 +1,42 @@
 -- The way to a bad entry, and the message that it spells. Assumes nothing.
-use Rattle.std.specs.Prelude.{◌≡◌, ℕ, zero, suc, ◌+◌, ◌-◌, ◌%◌, ◌<◌, ◌≤◌, Bool, true, cond, List, [], ◌∷◌, Some, None, Option, slice_index_or}
+use Rattle.std.specs.Prelude.{◌≡◌, ℕ, zero, suc, ◌+◌, ◌-◌, ◌%◌, ◌<◌, ◌≤◌, Bool, true, cond, List, [], ◌∷◌, Ok, Err, Result, slice_index}
+use Rattle.budget.specs.declared.Exhausted.{Exhausted}
 use Rattle.model.specs.Parser.{Bits}
 use Rattle.rows.specs.Row.{row_in}
 use Rattle.reach.specs.Model.{Model, follow}
+use Rattle.reach.specs.Ended.{sets_words}
 use Rattle.reach.specs.Tables.{path, entry}
 use Rattle.reach.specs.Held.{Begins, conf}
-use Rattle.reach.specs.Phases.{Within}
-use Rattle.reach.specs.declared.plan.Plan.{Plan}
-use Rattle.reach.specs.declared.way.Way.{Way}
+use Rattle.reach.specs.Phases.{Within, Short}
+use Rattle.reach.specs.declared.tables.Tables.{Tables}
 
 -- the bits of the entries on the way, among n entries from k on
 unfoldable pub spelled : (ℕ → ℕ) → (ℕ → Bool) → ℕ → ℕ → Bits
 spelled e on k zero = []
 spelled e on k (suc n) = cond (on k) (e k % 2 ∷ spelled e on (suc k) n) (spelled e on (suc k) n)
 
+-- the bits of the entries on the way after `root`, up to the last one
+abbrev pub way_bits : Tables → ℕ → ℕ → Bits
+way_bits t root last = spelled (entry t) (path t) (suc root) (last - root)
+
 -- from the entry `root`, a start, the entries on the way lead to the last one, which is bad
-pub record WayFrom (m : Model) (p : Plan) (room : List ℕ) (last root : ℕ) : Type 0 where
+pub record WayFrom (m : Model) (t : Tables) (last root : ℕ) : Type 0 where
   pub below : root ≤ last
-  pub begins : Begins m (conf (entry p room) root)
-  pub ends : m.bad (follow m.next (conf (entry p room) root) (spelled (entry p room) (path p room) (suc root) (last - root))) ≡ true
-  pub top : path p room last ≡ true
+  pub inside : last < t.count
+  pub begins : Begins m (conf (entry t) root)
+  pub ends : m.bad (follow m.next (conf (entry t) root) (way_bits t root last)) ≡ true
+  pub top : path t last ≡ true
 
-abbrev pub Traced : Model → Plan → ℕ → List ℕ → ℕ → Option Way → Type 0
-Traced m p work room last (Some way) = WayFrom m p room last way.root × Within work way.work m.count
-Traced m p work room last None = work < m.count
+abbrev pub Traced : Model → ℕ → ℕ → Tables → ℕ → Result ℕ Exhausted → Type 0
+Traced m work left t last (Ok root) = WayFrom m t last root × (t.count ≡ m.count) × Within work left m.count
+Traced m work left t last (Err e) = Short work left m.count
 
--- the message stands in the room
-pub record SpeltOut (p : Plan) (work left : ℕ) (room room' : List ℕ) (root last at : ℕ) : Type 0 where
-  pub row : row_in room' at ≡ spelled (entry p room) (path p room) (suc root) (last - root)
-  pub few : slice_index_or room' at 0 ≤ last
-  pub within : Within work left (last + p.words)
+-- the message stands in these words
+pub record SpeltOut (t : Tables) (work left root last : ℕ) (message : List ℕ) : Type 0 where
+  pub row : row_in message 0 ≡ way_bits t root last
+  pub few : slice_index message 0 ≤ t.count
+  pub within : Within work left (t.count + sets_words t.count)
 
-abbrev pub Spelt : Plan → ℕ → List ℕ → List ℕ → ℕ → ℕ → ℕ → Option ℕ → Type 0
-Spelt p work room room' root last at (Some left) = SpeltOut p work left room room' root last at
-Spelt p work room room' root last at None = work < last + p.words
+abbrev pub Spelt : ℕ → ℕ → Tables → ℕ → ℕ → List ℕ → Result (Unit {0}) Exhausted → Type 0
+Spelt work left t root last message (Ok u) = SpeltOut t work left root last message
+Spelt work left t root last message (Err e) = Short work left (t.count + sets_words t.count)

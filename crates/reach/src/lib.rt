@@ -1,15 +1,15 @@
-// Exhaustive sweep of a system in lent room. Read system, then exhaustive; plan and queue are its tables, explore and way its two halves.
+// Exhaustive sweep of a system in lent room. Read system, then exhaustive; layout and tables are what stands in the room, explore and way its two halves.
 #![tactic(auto)]
 
 mod exhaustive;
 mod explore;
-mod plan;
-mod queue;
+mod layout;
 mod system;
+mod tables;
 #[cfg(test)]
 mod tests;
 mod way;
 
-pub use exhaustive::{Found, Swept, sweep};
-pub use plan::table_words;
+pub use exhaustive::{Reached, sweep};
+pub use layout::table_words;
 pub use system::System;

@@ -1,7 +1,8 @@
 // A register of four bits that bits are shifted into, from 0000 and 1000: which contents it comes to.
 ghost use Rattle.std.specs.Prelude.{◌+◌, ◌*◌, ◌%◌, true, ◌==◌};
 
-use crate::{Found, System, sweep};
+use crate::{Reached, System, sweep};
+use budget::{Exhausted, Work};
 
 #[derive(Clone, Copy)]
 struct Register {
@@ -32,43 +33,41 @@ impl System for Register {
     }
 }
 
-const CLEAN: [u64; 3] = [0, 0, 0];
+type Ended = Result<Option<Reached>, Exhausted>;
 
-const EXHAUSTED: [u64; 3] = [2, 0, 0];
+const CLEAN: Ended = Ok(None);
 
-fn told(found: Found) -> [u64; 3] {
-    match found {
-        Found::Clean => CLEAN,
-        Found::Reached { start, at } => [1, start, at as u64],
-        Found::Exhausted => EXHAUSTED,
-    }
-}
+const REACHED: Ended = Ok(Some(Reached { start: 8, at: 11 }));
+
+const EXHAUSTED: Ended = Err(Exhausted);
 
 // What is bad, the work, how it ends, what is left. The tables have 9 words, and the gap 2.
-const ROWS: [(&'static str, u64, u64, [u64; 3], u64); 7] = [
+const ROWS: [(&'static str, u64, u64, Ended, u64); 7] = [
     ("nothing is bad", 16, 100, CLEAN, 63),
     ("just enough for that", 16, 37, CLEAN, 0),
     ("one turn too few", 16, 36, EXHAUSTED, 0),
-    ("0101 is bad", 5, 100, [1, 8, 11], 79),
-    ("just enough for that", 5, 21, [1, 8, 11], 0),
+    ("0101 is bad", 5, 100, REACHED, 79),
+    ("just enough for that", 5, 21, REACHED, 0),
     ("one turn too few", 5, 20, EXHAUSTED, 0),
-    ("a start is bad", 8, 100, [1, 8, 11], 95),
+    ("a start is bad", 8, 100, REACHED, 95),
 ];
 
 #[test]
 fn ends(rt: HostRuntime) {
     for (what, bad, work, found, left) in ROWS {
         let mut room = [7u64; 13];
-        let ended = sweep(&Register { bad }, work, &mut room, 2);
-        assert_eq!(rt; told(ended.found), found, "{}", what);
-        assert_eq!(rt; ended.work, left, "{}", what);
+        let mut work = Work { left: work };
+        let ended = sweep(&Register { bad }, &mut work, &mut room, 2);
+        assert_eq!(rt; ended, found, "{}", what);
+        assert_eq!(rt; work.left, left, "{}", what);
     }
 }
 
 #[test]
 fn message(rt: HostRuntime) {
     let mut room = [7u64; 13];
-    let _ = sweep(&Register { bad: 5 }, 100, &mut room, 2);
+    let mut work = Work { left: 100 };
+    let _ = sweep(&Register { bad: 5 }, &mut work, &mut room, 2);
     assert_eq!(rt; room[9], 7, "the gap");
     assert_eq!(rt; room[11], 3);
     assert_eq!(rt; room[12], 0b101);
@@ -77,7 +76,8 @@ fn message(rt: HostRuntime) {
 #[test]
 fn one_word_too_few(rt: HostRuntime) {
     let mut room = [7u64; 12];
-    let ended = sweep(&Register { bad: 5 }, 100, &mut room, 2);
-    assert_eq!(rt; told(ended.found), EXHAUSTED);
-    assert_eq!(rt; ended.work, 100);
+    let mut work = Work { left: 100 };
+    let ended = sweep(&Register { bad: 5 }, &mut work, &mut room, 2);
+    assert_eq!(rt; ended, EXHAUSTED);
+    assert_eq!(rt; work.left, 100);
 }

@@ -1,5 +1,5 @@
 use Rattle.compare.specs.Pieces.{Laid}
 use Rattle.compare.proofs.headers.write_store.Given as goal
 
-abbrev pub invariant-loop-size : goal.invariant-loop-size
-invariant-loop-size l = Laid l.sizes l.initial.room l.room l.at l.contents l.size-index l.rest l.next
+abbrev pub invariant-loop-i : goal.invariant-loop-i
+invariant-loop-i l = Laid l.sizes l.initial.room l.room l.at l.contents l.i l.rest

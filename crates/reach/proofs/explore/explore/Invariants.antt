@@ -5,10 +5,10 @@ use Rattle.reach.proofs.explore.explore.Given as goal
 abbrev pub invariant-loop-done : goal.invariant-loop-done
 invariant-loop-done g l =
     let m = g.S.System.model l.system in
-    Going m l.plan l.room l.roots l.tail m.starts l.done
-    × (l.done ≤ 2 * l.tail)
-    × (l.roots ≤ l.tail)
-    × (l.left + l.done ≡ l.work)
+    Going m l.tables l.initial.tables.tail m.starts l.done
+    × (l.done ≤ 2 * l.tables.tail)
+    × (l.initial.tables.tail ≤ l.tables.tail)
+    × (l.work.left + l.done ≡ l.initial.work.left)
 
 abbrev pub decreases-loop-done : goal.decreases-loop-done
-decreases-loop-done g l = l.left
+decreases-loop-done g l = l.work.left

@@ -6,4 +6,4 @@ use Rattle.reach.proofs.explore.seed.Given as goal
 abbrev pub invariant-loop-i : goal.invariant-loop-i
 invariant-loop-i g l =
     let m = g.S.System.model l.system in
-    Going m l.plan l.room m.count l.tail l.i 0 × (l.left + l.i ≡ l.work)
+    Going m l.tables m.count l.i 0 × (l.work.left + l.i ≡ l.initial.work.left)

@@ -1,23 +1,16 @@
-use Rattle.std.proofs.Common.{length}
+use Rattle.std.proofs.Common.{sym}
 use Rattle.reach.specs.Tables.{odd_in, entry}
-use Rattle.reach.proofs.Explorations.{odd_read}
 use Rattle.reach.proofs.Traces.{no_parent, parent_test}
 use Rattle.reach.proofs.way.is_parent.Goals as goal
 
-pub returns-then-get-odd : goal.returns-then-get-odd
-returns-then-get-odd g c =
+pub returns-then-is_odd : goal.returns-then-is_odd
+returns-then-is_odd g c =
     let m = g.S.System.model c.args.system.now in
-    let p = c.args.plan in
-    let room = c.args.room.now in
-    let j_is = odd_read m.count p (length room) room c.args.j c.get.result c.requires.laid c.requires.within.0 c.get.ensures in
-    let k_is = odd_read m.count p (length room) room c.args.k c.get-odd.result c.requires.laid c.requires.within.1 c.get-odd.ensures in
-    no_parent m (odd_in p room) (entry p room) c.args.j c.args.k c.get.result c.get-odd.result j_is k_is c.if-get-odd.true
+    let t = c.args.tables.now in
+    no_parent m (odd_in t) (entry t) c.args.j c.args.k c.is_odd.result c.is_odd-2.result (sym c.is_odd.ensures) (sym c.is_odd-2.ensures) c.if-is_odd.true
 
 pub returns : goal.returns
 returns g c =
     let m = g.S.System.model c.args.system.now in
-    let p = c.args.plan in
-    let room = c.args.room.now in
-    let j_is = odd_read m.count p (length room) room c.args.j c.get.result c.requires.laid c.requires.within.0 c.get.ensures in
-    let k_is = odd_read m.count p (length room) room c.args.k c.get-odd.result c.requires.laid c.requires.within.1 c.get-odd.ensures in
-    parent_test m (odd_in p room) (entry p room) c.args.j c.args.k c.get.result c.get-odd.result j_is k_is c.get-entry.result c.get-2.result c.after.result c.get-entry.ensures c.get-2.ensures c.after.ensures.value c.if-get-odd.false
+    let t = c.args.tables.now in
+    parent_test m (odd_in t) (entry t) c.args.j c.args.k c.is_odd.result c.is_odd-2.result (sym c.is_odd.ensures) (sym c.is_odd-2.ensures) c.entry-entry.result c.entry.result c.after.result c.entry-entry.ensures c.entry.ensures c.after.ensures.value c.if-is_odd.false

@@ -5,9 +5,9 @@ use Rattle.reach.proofs.way.spell.Given as goal
 -- a turn goes on to the next word, or writes a bit
 abbrev pub invariant-loop-next : goal.invariant-loop-next
 invariant-loop-next l =
-    Spelling l.plan l.initial.room l.room l.root l.last l.at l.next l.len
-    × (l.left ≤ l.work)
-    × (l.work ≤ l.left + (l.len + l.next / 64))
+    Spelling l.tables l.message l.root l.last l.next l.len
+    × (l.work.left ≤ l.initial.work.left)
+    × (l.initial.work.left ≤ l.work.left + (l.len + l.next / 64))
 
 abbrev pub decreases-loop-next : goal.decreases-loop-next
-decreases-loop-next l = l.left
+decreases-loop-next l = l.work.left

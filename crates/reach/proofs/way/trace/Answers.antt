@@ -1,48 +1,50 @@
-use Rattle.std.proofs.Common.{◌≡◌, ◌+◌, ◌-◌, ◌*◌, ◌<◌, ◌≤◌, sym, arith}
+use Rattle.std.proofs.Common.{◌-◌, ◌<◌, ◌≤◌, ◌∙◌, ⊎_elim, arith}
+use Rattle.std.proofs.lemmas.Bool.{cases_lt}
 use Rattle.reach.specs.Tables.{seen, odd_in, path, entry}
-use Rattle.reach.proofs.Traces.{marked_put, parent_below, tracing_past, trace_first, trace_step, trace_all}
+use Rattle.reach.proofs.Traces.{parent_below, tracing_past, trace_first, trace_step, trace_all}
 use Rattle.reach.proofs.way.trace.Goals as goal
 
-pub loop-k-init : goal.loop-k-init
-loop-k-init g c =
-    let m = g.S.System.model c.args.system.now in
-    let p = c.args.plan in
-    let put = c.put.ensures in
-    let inside : c.args.last < 64 * c.args.plan.words = omega (arith, c.requires.caught.held.spare, c.requires.laid.wide) in
-    let mark = marked_put p c.args.room.now c.put.new.room c.args.last inside (record { here = put.here; others = put.others; rest = put.rest }) in
-    (trace_first m p c.args.room.now c.put.new.room c.args.roots c.args.last c.requires.caught mark, omega arith)
+pub loop-j-init : goal.loop-j-init
+loop-j-init g c =
+    (c.mark.ensures.size ∙ c.requires.size, trace_first (g.S.System.model c.args.system.now) c.args.tables.now c.mark.new.self c.args.roots c.args.last c.requires c.mark.ensures, omega arith)
 
-pub overflow_sub-j : goal.overflow_sub-j
-overflow_sub-j g c =
-    let m = g.S.System.model c.args.system.now in
-    let p = c.args.plan in
-    let room = c.loop-k.room in
-    parent_below m (seen p room) (odd_in p room) (entry p room) c.args.roots c.args.last (path p room) c.loop-k.k c.loop-k.j c.loop-k.invariant.0 c.loop-k-test.true
+pub is_parent-requires-clause-below : goal.is_parent-requires-clause-below
+is_parent-requires-clause-below g c =
+    let h = c.loop-j.invariant.1 in
+    h.held.inside (c.loop-j.j - 1) (omega (arith, h.order, h.under))
 
-pub loop-k-preserved-then-is_parent : goal.loop-k-preserved-then-is_parent
-loop-k-preserved-then-is_parent g c =
-    let m = g.S.System.model c.args.system.now in
-    let p = c.args.plan in
-    let room = c.loop-k.room in
-    let put = c.put-then-is_parent.ensures in
-    let some = parent_below m (seen p room) (odd_in p room) (entry p room) c.args.roots c.args.last (path p room) c.loop-k.k c.loop-k.j c.loop-k.invariant.0 c.loop-k-test.true in
-    let inside : c.loop-k.j - 1 < 64 * c.args.plan.words = omega (arith, c.loop-k.invariant.0.held.spare, c.loop-k.invariant.0.order, c.loop-k.invariant.0.under, c.requires.laid.wide) in
-    let mark = marked_put p room c.put-then-is_parent.new.room (c.loop-k.j - 1) inside (record { here = put.here; others = put.others; rest = put.rest }) in
-    let spent : c.loop-k.left - 1 + c.args.last ≡ c.args.work + (c.loop-k.j - 1) = omega (arith, some, c.loop-k.invariant.1) in
-    (trace_step m p room c.put-then-is_parent.new.room c.args.roots c.args.last c.loop-k.k c.loop-k.j c.loop-k.invariant.0 some (sym c.if-is_parent.ensures) mark, spent)
+pub loop-j-preserved-then-is_parent : goal.loop-j-preserved-then-is_parent
+loop-j-preserved-then-is_parent g c =
+    let h = c.loop-j.invariant in (
+      c.mark-then-is_parent.ensures.size ∙ h.0,
+      trace_step (g.S.System.model c.args.system.now) c.loop-j.tables c.mark-then-is_parent.new.self c.args.roots c.args.last c.loop-j.k c.loop-j.j h.1 c.loop-j-test.true c.if-is_parent.ensures c.mark-then-is_parent.ensures,
+      omega (arith, c.in_ok-spend.ensures.spent, c.loop-j-test.true, h.2),
+    )
 
-pub loop-k-preserved : goal.loop-k-preserved
-loop-k-preserved g c =
-    let m = g.S.System.model c.args.system.now in
-    let p = c.args.plan in
-    let room = c.loop-k.room in
-    let some = parent_below m (seen p room) (odd_in p room) (entry p room) c.args.roots c.args.last (path p room) c.loop-k.k c.loop-k.j c.loop-k.invariant.0 c.loop-k-test.true in
-    let spent : c.loop-k.left - 1 + c.args.last ≡ c.args.work + (c.loop-k.j - 1) = omega (arith, some, c.loop-k.invariant.1) in
-    (tracing_past m (seen p room) (odd_in p room) (entry p room) c.args.roots c.args.last (path p room) c.loop-k.k c.loop-k.j c.loop-k.invariant.0 some (sym c.if-is_parent.ensures), spent)
+pub loop-j-preserved : goal.loop-j-preserved
+loop-j-preserved g c =
+    let h = c.loop-j.invariant in
+    let t = c.loop-j.tables in (
+      h.0,
+      tracing_past (g.S.System.model c.args.system.now) (seen t) (odd_in t) (entry t) c.args.roots c.args.last (path t) c.loop-j.k c.loop-j.j h.1 c.loop-j-test.true c.if-is_parent.ensures,
+      omega (arith, c.in_ok-spend.ensures.spent, c.loop-j-test.true, h.2),
+    )
 
-pub returns : goal.returns
-returns g c =
+-- no entry is left below, so the last one found is a start
+pub returns-after-loop-j : goal.returns-after-loop-j
+returns-after-loop-j g c =
     let m = g.S.System.model c.args.system.now in
-    let less : c.loop-k.left ≤ c.args.work = omega (arith, c.loop-k.invariant.1, c.loop-k.invariant.0.order, c.loop-k.invariant.0.under) in
-    let most : c.args.work ≤ c.loop-k.left + (g.S.System.model c.args.system.now).count = omega (arith, c.loop-k.invariant.1, c.loop-k.invariant.0.held.spare) in
-    (trace_all m c.args.plan c.loop-k.room c.args.roots c.args.last c.loop-k.k c.loop-k.j c.loop-k.invariant.0 c.loop-k-test.false, (less, most))
+    let h = c.loop-j.invariant in
+    let t = c.loop-j.tables in
+    let root : c.loop-j.k < c.args.roots =
+    ⊎_elim (λ (lt : c.loop-j.k < c.args.roots). lt) (λ (ge : c.args.roots ≤ c.loop-j.k). absurd (omega (arith, c.loop-j-test.false, parent_below m (seen t) (odd_in t) (entry t) c.args.roots c.args.last (path t) c.loop-j.k c.loop-j.j h.1 ge)))
+    (cases_lt c.loop-j.k c.args.roots) in
+    (trace_all m t c.args.roots c.args.last c.loop-j.k c.loop-j.j h.1 (omega (arith, h.0, h.1.held.spare)) root, h.0, (omega (arith, h.1.order, h.1.under, h.2), omega (arith, h.1.held.spare, h.2)))
+
+pub returns-then-k-roots : goal.returns-then-k-roots
+returns-then-k-roots g c =
+    let h = c.loop-j.invariant in (
+      trace_all (g.S.System.model c.args.system.now) c.loop-j.tables c.args.roots c.args.last c.loop-j.k c.loop-j.j h.1 (omega (arith, h.0, h.1.held.spare)) c.if-k-roots.true,
+      h.0,
+      (omega (arith, h.1.order, h.1.under, h.2), omega (arith, h.1.held.spare, h.2)),
+    )
