@@ -53,13 +53,10 @@ fn read_file(rt: &HostRuntime, name: &str) -> Result<Vec<u8>, Failure> {
         rt.stdin().read_to_end(&mut bytes)?;
         return Ok(bytes);
     }
-    match fs::read(rt, name) {
-        Ok(bytes) => Ok(bytes),
-        Err(error) => {
-            let name = String::from_str(rt.alloc(), name)?;
-            Err(Failure::Unread { name, error })
-        }
-    }
+    fs::read(rt, name).try_map_err(|error| {
+        let name = String::from_str(rt.alloc(), name)?;
+        Ok(Failure::Unread { name, error })
+    })
 }
 
 fn run(rt: &HostRuntime) -> Result<(), Failure> {

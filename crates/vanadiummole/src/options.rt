@@ -65,8 +65,6 @@ impl Options {
 
 // What `--most-room` is followed by.
 fn number(arg: Option<String>) -> Result<u64, Failure> {
-    let Some(Ok(number)) = arg.map(|text| text.parse::<u64>()) else {
-        return Err(Failure::NoNumber);
-    };
-    Ok(number)
+    arg.and_then(|text| text.parse::<u64>().ok())
+        .ok_or(Failure::NoNumber)
 }
