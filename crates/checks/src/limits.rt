@@ -33,7 +33,7 @@ pub(crate) fn within_limits(parser: &Parser) -> bool
 fn headers_within(sizes: &[u16]) -> bool
     ensures { result ≡ headers_within sizes.now }
 {
-    sizes.len() <= HEADERS && have_bits(sizes) && header_bits(sizes) <= HEADER_BITS
+    sizes.len() <= HEADERS && have_bits(sizes) && total_bits(sizes) <= HEADER_BITS
 }
 
 fn have_bits(sizes: &[u16]) -> bool
@@ -42,7 +42,7 @@ fn have_bits(sizes: &[u16]) -> bool
     sizes.iter().all(|size| *size > 0)
 }
 
-fn header_bits(sizes: &[u16]) -> usize
+fn total_bits(sizes: &[u16]) -> usize
     requires { length sizes.now ≤ 64 }
     ensures { result ≡ sum sizes.now }
 {

@@ -2,7 +2,7 @@
 
 // Bits that are copied: of a header, of a constant (one bit to a byte), from one bit of an
 // expression up to and with a later one, or of two expressions joined.
-#[derive(Drop)]
+#[derive(PartialEq, Eq, Debug, Drop)]
 pub enum Expr {
     Header(u16),
     Bits(Vec<u8>),
@@ -11,14 +11,14 @@ pub enum Expr {
 }
 
 // A header gets the next bits of the input, or the value of an expression.
-#[derive(Drop)]
+#[derive(PartialEq, Eq, Debug, Drop)]
 pub enum Op {
     Extract(u16),
     Assign(u16, Expr),
 }
 
 // Where a state leads.
-#[derive(Clone, Copy)]
+#[derive(Clone, Copy, PartialEq, Eq, Debug)]
 pub enum Target {
     State(u16),
     Accept,
@@ -26,21 +26,21 @@ pub enum Target {
 }
 
 // What a select key is held to.
-#[derive(Drop)]
+#[derive(PartialEq, Eq, Debug, Drop)]
 pub enum Pattern {
     Exactly(Vec<u8>),
     Any,
 }
 
 // A pattern for each select key, and where the case leads.
-#[derive(Drop)]
+#[derive(PartialEq, Eq, Debug, Drop)]
 pub struct Case {
     pub patterns: Vec<Pattern>,
     pub target: Target,
 }
 
 // Ops are done in order; then the first case that matches the keys leads on, else `otherwise`.
-#[derive(Drop)]
+#[derive(PartialEq, Eq, Debug, Drop)]
 pub struct State {
     pub ops: Vec<Op>,
     pub keys: Vec<Expr>,
@@ -49,7 +49,7 @@ pub struct State {
 }
 
 // How many bits each header has, and the states.
-#[derive(Drop)]
+#[derive(PartialEq, Eq, Debug, Drop)]
 pub struct Parser {
     pub sizes: Vec<u16>,
     pub states: Vec<State>,
