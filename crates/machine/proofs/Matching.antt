@@ -63,7 +63,3 @@ module _ (ns : List ℕ) (s : M.Store) where
   all_passed {matches} {keys} {pats} left is =
       let none : keys ≡ [] = nil_from_length keys (as_many ns keys pats left.wide ∙ is) in
       sym (ap (λ xs. M.matches s (map expr_of xs) (map pattern_of pats)) none) ∙ left.same
-
-pub drop_some : {X : Type 0} (xs : List X) (i : ℕ) → i < length xs → (x : X) × (drop i xs ≡ x ∷ drop (i + 1) xs)
-drop_some [] i l = absurd (not-suc-le-zero l)
-drop_some (x ∷ xs) i l = (get_or (x ∷ xs) i x, drop_more (x ∷ xs) i x l)
