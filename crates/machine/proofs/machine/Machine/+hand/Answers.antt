@@ -1,4 +1,4 @@
-use Rattle.std.proofs.Common.{ℕ, ◌+◌, List, None, sym, refl, ◌∙◌, subst}
+use Rattle.std.proofs.Common.{ℕ, List, None, sym, refl, subst}
 use Rattle.model.specs.Parser.{value}
 use Rattle.syntax.specs.View.{expr_of}
 use Rattle.machine.specs.Row.{headers}
@@ -33,9 +33,9 @@ returns-in_ok-header-in-Header g t c =
     let named = c.requires.proper.named in
     let used = c.of-from.ensures in
     let long = header_long ns f c.in-Header.is named c.start.ensures.value c.size.ensures in
-    let part = header_wanted ns f c.in-Header.is named c.start.ensures.value c.size.ensures c.args.want used.passed used.used in
-    ( piece_left v c.args.want c.after.result long used.passed used.used c.after.ensures.skip c.after.ensures.most
-    , subst (g.S.Sink.Took c.args.sink.now c.header.new.self) (sym part) c.in_ok-header-in-Header.ensures
+    let part = header_wanted ns f c.in-Header.is named c.start.ensures.value c.size.ensures c.args.want used.passed used.used in (
+      piece_left v c.args.want c.after.result long used.passed used.used c.after.ensures.skip c.after.ensures.most,
+      subst (g.S.Sink.Took c.args.sink.now c.header.new.self) (sym part) c.in_ok-header-in-Header.ensures,
     )
 
 pub constant-requires-clause-bits : goal.constant-requires-clause-bits
@@ -57,9 +57,9 @@ returns-in_ok-hand-in-Slice g t c =
     let ok = c.requires.proper in
     let used = c.of-from-in-Slice.ensures in
     let long = slice_long ns f c.in-Slice.is c.deref-in-Slice.ensures ok.named ok.sized in
-    let part = slice_wanted ns f c.in-Slice.is c.deref-in-Slice.ensures ok c.args.want used.passed used.used in
-    ( piece_left v c.args.want c.after-in-Slice.result long used.passed used.used c.after-in-Slice.ensures.skip c.after-in-Slice.ensures.most
-    , subst (g.S.Sink.Took c.args.sink.now c.hand.new.sink) (sym part) c.in_ok-hand-in-Slice.ensures.1
+    let part = slice_wanted ns f c.in-Slice.is c.deref-in-Slice.ensures ok c.args.want used.passed used.used in (
+      piece_left v c.args.want c.after-in-Slice.result long used.passed used.used c.after-in-Slice.ensures.skip c.after-in-Slice.ensures.most,
+      subst (g.S.Sink.Took c.args.sink.now c.hand.new.sink) (sym part) c.in_ok-hand-in-Slice.ensures.1,
     )
 
 pub returns-in_err-rest-in-Join : goal.returns-in_err-rest-in-Join
