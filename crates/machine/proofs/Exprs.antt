@@ -1,5 +1,5 @@
 -- What the value of an expression is made of, variant by variant. Assumes nothing.
-use Rattle.std.proofs.Common.{◌≡◌, ℕ, suc, ◌+◌, ◌-◌, ◌<◌, ◌≤◌, true, ltb, List, ◌++◌, length, get_or, take, drop, vec_items, vec_len, Vec, Box, sym, ap, ◌∙◌, subst, ap₂, arith}
+use Rattle.std.proofs.Common.{◌≡◌, ℕ, suc, ◌+◌, ◌-◌, ◌<◌, ◌≤◌, true, ltb, List, ◌++◌, length, get_or, take, drop, vec_items, Vec, Box, sym, ap, ◌∙◌, subst, ap₂, arith}
 use Rattle.std.specs.declared.alloc.Global.{Global}
 use Rattle.std.proofs.lemmas.Bool.{ltb-true, and_parts}
 use Rattle.model.specs.Parser.{Store, value}
@@ -34,16 +34,6 @@ module _ (ns : List ℕ) (row : ℕ → ℕ) {e : Expr} {h start size : ℕ} (is
       omega (arith, start_room 0 ns h known)
 
 module _ (s : Store) {e : Expr} {constant : Vec ℕ Global} {row : List ℕ} (is : e ≡ Bits constant) (row_is : row ≡ vec_items constant) where
-  bits_row : value s (expr_of e) ≡ row
-  bits_row = ap (λ e. value s (expr_of e)) is ∙ sym row_is
-
-  pub bits_long : {len : ℕ} → len ≡ vec_len constant → length row ≡ vec_len constant → length (value s (expr_of e)) ≡ len
-  bits_long p q = ap length bits_row ∙ q ∙ sym p
-
-  -- `constant[f..f + n]` as the checker reads it
-  pub bits_part : (f n : ℕ) → take (f + n - f) (drop f row) ≡ take n (drop f (value s (expr_of e)))
-  bits_part f n = let m : f + n - f ≡ n = omega arith in ap₂ (λ i xs. take i (drop f xs)) m (sym bits_row)
-
   pub bits_small : (ns : List ℕ) → sized_expr ns (expr_of e) ≡ true → (f n : ℕ) → are_bits (take n (drop f row)) ≡ true
   bits_small ns sized f n =
       let all : are_bits row ≡ true = ap are_bits row_is ∙ (and_parts _ _ (subst (λ e. sized_expr ns (expr_of e) ≡ true) is sized)).0 in

@@ -1,15 +1,41 @@
 -- What is wanted of a row, in one piece or in two, and what a sink makes of it. Assumes nothing.
-use Rattle.std.proofs.Common.{◌≡◌, ℕ, ◌+◌, ◌-◌, min, List, [], ◌++◌, length, take, append-nil, Some, None, Option, MatchOption, sym, refl, ap, ◌∙◌, subst, ap₂, arith}
+use Rattle.std.proofs.Common.{◌≡◌, ℕ, ◌+◌, ◌-◌, min, true, List, [], ◌++◌, length, get_or, take, append-nil, Some, None, Option, MatchOption, Box, sym, refl, ap, ◌∙◌, subst, ap₂, arith}
+use Rattle.std.specs.declared.alloc.Global.{Global}
 use Rattle.std.proofs.lemmas.List.{length-append, nil_from_length, take_all}
+use Rattle.model.specs.Parser.{value}
+use Rattle.model.specs.Refusal.{named_expr}
+use Rattle.syntax.specs.View.{expr_of}
+use Rattle.syntax.specs.declared.ast.Expr.{Expr, Slice}
+use Rattle.syntax.specs.declared.ast.Expr.TheVariants.{Header}
+use Rattle.machine.specs.Ready.{starts_from}
+use Rattle.machine.specs.Row.{headers, part}
+use Rattle.machine.specs.Sound.{Proper}
 use Rattle.machine.specs.Window.{window, Written, Wrote}
 use Rattle.machine.specs.Sink.{SinkLaws, Left, wanted, Handed}
 use Rattle.machine.specs.declared.want.Want.{Want}
-use Rattle.machine.proofs.Windows.{left_over, used, window_join, length-window}
+use Rattle.machine.proofs.Exprs.{header_long, header_part, slice_long, slice_part}
+use Rattle.machine.proofs.Windows.{inside, left_over, used, window_is, window_join}
 
 -- f of v are passed over, and the next n used
 pub piece_left : (v : List ℕ) (w x : Want) {size f n : ℕ} → length v ≡ size → f ≡ min w.skip size → n ≡ min w.most (size - f) → x.skip ≡ w.skip - f → x.most ≡ w.most - n → Left v w x
 piece_left v w x long f_is n_is skip most =
     record { skip = skip ∙ left_over v w.skip w.most long f_is n_is; most = most ∙ ap (λ j. w.most - j) (used v w.skip w.most long f_is n_is) }
+
+-- what is wanted of a header
+pub header_wanted : (ns : List ℕ) (row : ℕ → ℕ) {e : Expr} {h start size : ℕ} → e ≡ Header h → named_expr ns (expr_of e) ≡ true → start ≡ get_or (starts_from 0 ns) h 0 → size ≡ get_or ns h 0
+    → (w : Want) {f n : ℕ} → f ≡ min w.skip size → n ≡ min w.most (size - f) → wanted (value (headers row 0 ns) (expr_of e)) w ≡ part row (start + f) n
+header_wanted ns row {e} is named start_is size_is w {f} {n} f_is n_is =
+    let v : List ℕ = value (headers row 0 ns) (expr_of e) in
+    let long = header_long ns row is named start_is size_is in
+    window_is v w.skip w.most long f_is n_is ∙ header_part ns row is named start_is size_is f n (inside v w.skip w.most long f_is n_is)
+
+-- and of a slice
+pub slice_wanted : (ns : List ℕ) (row : ℕ → ℕ) {e inner : Expr} {b : Box Expr Global} {lo hi : ℕ} → e ≡ Slice b lo hi → inner ≡ b.value → Proper ns (expr_of e)
+    → (w : Want) {f n : ℕ} → f ≡ min w.skip (hi + 1 - lo) → n ≡ min w.most (hi + 1 - lo - f) → wanted (value (headers row 0 ns) (expr_of e)) w ≡ window (value (headers row 0 ns) (expr_of inner)) (lo + f) n
+slice_wanted ns row {e} is same ok w {f} {n} f_is n_is =
+    let v : List ℕ = value (headers row 0 ns) (expr_of e) in
+    let long = slice_long ns row is same ok.named ok.sized in
+    window_is v w.skip w.most long f_is n_is ∙ slice_part ns row is same ok.named ok.sized f n (inside v w.skip w.most long f_is n_is)
 
 -- of a, and then of b
 module _ (a b : List ℕ) (w : Want) where
@@ -33,11 +59,6 @@ module _ (a b : List ℕ) (w : Want) where
     pub then_handed : (s t u : S) {x : Want} (r : Option Want) → Left a w x → Took s t (wanted a w) → Handed Took Refuses b x t u r → Handed Took Refuses (a ++ b) w s u r
     then_handed s t u None left took refused = subst (Refuses s) (sym (both left)) (laws.refuses_second s t _ _ took refused)
     then_handed s t u (Some y) left took more = (left_both left more.0, subst (Took s u) (sym (both left)) (laws.joins s t u _ _ took more.1))
-
-    pub then_fits : (s t : S) {x : Want} → Left a w x → Took s t (wanted a w) → Fits s w.most → Fits t x.most
-    then_fits s t {x} left took fits =
-        let all : w.most ≡ length (wanted a w) + x.most = omega (arith, left.most, length-window a w.skip w.most) in
-        laws.fits_behind s t (wanted a w) x.most took (subst (Fits s) all fits)
 
 -- bits that a row as long was held to
 pub held_whole : (v bs rest : List ℕ) {w : Want} → length v ≡ length bs → w.skip ≡ 0 → w.most ≡ length bs → bs ≡ wanted v w ++ rest → v ≡ bs

@@ -1,7 +1,7 @@
 -- The loop that holds select keys to patterns. Assumes nothing.
-use Rattle.std.proofs.Common.{◌≡◌, ℕ, suc, ◌+◌, ◌<◌, Bool, true, false, ◌&&◌, List, [], ◌∷◌, map, length, get_or, drop, vec_items, Vec, sym, refl, ap, ◌∙◌, subst, not-suc-le-zero}
+use Rattle.std.proofs.Common.{◌≡◌, ℕ, suc, Bool, true, false, ◌&&◌, List, [], ◌∷◌, map, length, vec_items, Vec, sym, refl, ap, ◌∙◌, subst}
 use Rattle.std.specs.declared.alloc.Global.{Global}
-use Rattle.std.proofs.lemmas.List.{drop_more, nil_from_length}
+use Rattle.std.proofs.lemmas.List.{nil_from_length}
 use Rattle.std.proofs.lemmas.Bool.{and_parts, eqb-true, false≢true}
 use Rattle.model.specs.Parser as M
 use Rattle.model.specs.Refusal.{every, expr_width, named_expr, sized_expr, sized_patterns}
@@ -63,7 +63,3 @@ module _ (ns : List ℕ) (s : M.Store) where
   all_passed {matches} {keys} {pats} left is =
       let none : keys ≡ [] = nil_from_length keys (as_many ns keys pats left.wide ∙ is) in
       sym (ap (λ xs. M.matches s (map expr_of xs) (map pattern_of pats)) none) ∙ left.same
-
-pub drop_some : {X : Type 0} (xs : List X) (i : ℕ) → i < length xs → (x : X) × (drop i xs ≡ x ∷ drop (i + 1) xs)
-drop_some [] i l = absurd (not-suc-le-zero l)
-drop_some (x ∷ xs) i l = (get_or (x ∷ xs) i x, drop_more (x ∷ xs) i x l)

@@ -20,12 +20,6 @@ take-append (suc n) (x ∷ a) b =
     let e : n - length a ≡ suc n - suc (length a) = omega arith in
     ap (λ xs. x ∷ xs) (take-append n a b ∙ ap (λ j. take n a ++ take j b) e)
 
-pub take-add : (n m : ℕ) (xs : List ℕ) → take (n + m) xs ≡ take n xs ++ take m (drop n xs)
-take-add zero m xs = let e : 0 + m ≡ m = omega arith in ap (λ j. take j xs) e
-take-add (suc n) zero [] = let e : suc n + 0 ≡ suc n = omega arith in ap (λ j. take {A = ℕ} j []) e
-take-add (suc n) (suc m) [] = let e : suc n + suc m ≡ suc (n + suc m) = omega arith in ap (λ j. take {A = ℕ} j []) e
-take-add (suc n) m (x ∷ xs) = let e : suc n + m ≡ suc (n + m) = omega arith in ap (λ j. take j (x ∷ xs)) e ∙ ap (λ ys. x ∷ ys) (take-add n m xs)
-
 -- of two rows joined, m of the first being used
 pub window_join : (a b : List ℕ) (k n m : ℕ) → m ≡ length (window a k n) → window (a ++ b) k n ≡ window a k n ++ window b (k - length a) (n - m)
 window_join a b k n m used =

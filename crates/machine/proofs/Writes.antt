@@ -1,14 +1,11 @@
 -- What is written into a row one after the other, and a header that is written so. Assumes nothing.
-use Rattle.std.proofs.Common.{◌≡◌, ℕ, zero, suc, ◌+◌, ◌<◌, ◌≤◌, List, [], ◌∷◌, length, get_or, set, sym, refl, ◌∙◌, subst, ap₂, ⊎_elim, not-suc-le-zero, arith}
+use Rattle.std.proofs.Common.{◌≡◌, ℕ, zero, suc, ◌+◌, ◌<◌, ◌≤◌, List, [], ◌∷◌, length, get_or, set, sym, ◌∙◌, subst, ap₂, ⊎_elim, not-suc-le-zero, arith}
 use Rattle.std.proofs.lemmas.List.{ext_get_or}
 use Rattle.std.proofs.lemmas.Bool.{cases_lt}
 use Rattle.machine.specs.Ready.{starts_from}
 use Rattle.machine.specs.Row.{part, headers}
 use Rattle.machine.specs.Window.{Written}
 use Rattle.machine.proofs.Rows.{length_part, part_at, same_part, same_headers}
-
-pub write_none : (f : ℕ → ℕ) (xs : List ℕ) (k : ℕ) → Written f f xs k 0
-write_none f xs k = record { wrote = λ j l. absurd (not-suc-le-zero l); below = λ j l. refl; above = λ j l. refl }
 
 pub write_more : {f g h : ℕ → ℕ} {xs : List ℕ} {k i : ℕ} → Written f g xs k i → h (k + i) ≡ get_or xs i 0 → ((j : ℕ) → (j ≡ k + i → ⊥) → h j ≡ g j) → Written f h xs k (i + 1)
 write_more {f} {g} {h} {xs} {k} {i} w here others =

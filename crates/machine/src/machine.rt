@@ -50,7 +50,7 @@ impl Machine {
     }
 }
 
-// where each header begins, one after the other
+// Where each header begins, one after the other. A loop is as plain as `scan` with the sum that it keeps.
 fn lay_out(heap: Global, checked: &Checked) -> Result<Vec<u16>, AllocError>
     ensures { IfOk result (λ v. v.items ≡ starts_from 0 checked.now.parser.sizes.items) }
 {
@@ -63,7 +63,7 @@ fn lay_out(heap: Global, checked: &Checked) -> Result<Vec<u16>, AllocError>
     Ok(starts)
 }
 
-// how many bits each state takes
+// How many bits each state takes. A loop, since a closure in a chain would not know that a state is right.
 fn count(heap: Global, checked: &Checked) -> Result<Vec<u16>, AllocError>
     ensures { IfOk result (λ v. v.items ≡ widths_of (parser_of checked.now.parser)) }
 {
@@ -74,7 +74,7 @@ fn count(heap: Global, checked: &Checked) -> Result<Vec<u16>, AllocError>
     Ok(widths)
 }
 
-// how many bits ops take
+// How many bits ops take. A loop, since a closure in a chain would not know that a header is there.
 fn count_ops(ops: &[Op], sizes: &[u16]) -> u16
     requires named { every (named_op sizes.now) (map op_of ops.now) ≡ true }
     requires few { ops_width sizes.now (map op_of ops.now) ≤ 4096 }

@@ -51,7 +51,8 @@ impl Store {
         rows::put(&mut self.words, 0, k, on);
     }
 
-    // are these its bits from bit k on
+    // Are these its bits from bit k on. A loop, since the check does not see that `all` over the enumerated bits
+    // says so.
     pub(crate) fn holds(&self, k: usize, bits: &[u8]) -> bool
         requires { k + length bits.now ≤ 4096 }
         ensures { result ≡ same_bits (part (bit_in self.now.words) k (length bits.now)) bits.now }

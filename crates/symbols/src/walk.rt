@@ -12,7 +12,8 @@ use crate::row;
 use machine::Machine;
 use syntax::{Expr, Op, State};
 
-// all ops of a state, one after the other
+// All ops of a state, one after the other. `heads` and `scratch` stand beside the machine here and below: a
+// struct that held them to be written would have each method promise that they are still the same rows.
 pub(crate) fn perform(
     machine: &Machine,
     state: &State,
