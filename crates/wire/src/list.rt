@@ -38,7 +38,8 @@ pub(crate) fn read_list<T: FromBytes<Kept = T>>(
     Ok(items)
 }
 
-// The same of elements that may not have been kept: then no list is.
+// The same of elements that may not have been kept: then no list is. One function for both would need a trait of how a
+// list grows, which is no plainer.
 pub(crate) fn read_kept<T: FromBytes<Kept = Option<T>>>(
     heap: Global,
     reader: &mut Reader,
