@@ -5,7 +5,7 @@ ghost use Rattle.scan.specs.declared.fault.Fault.TheVariants.{Memory};
 use std::alloc::{AllocError, AllocFailed};
 
 // Want of memory; or bytes that cease to be a request, and where they do.
-#[derive(Drop)]
+#[derive(Clone, Copy, PartialEq, Eq, Debug)]
 pub enum Fault {
     Memory,
     Garbled(usize),

@@ -3,6 +3,8 @@
 
 mod fault;
 mod reader;
+#[cfg(test)]
+mod tests;
 
 pub use fault::Fault;
 pub use reader::Reader;

@@ -8,20 +8,26 @@ ghost use Rattle.wire.specs.Kept.{Each, EachKept, appended};
 use scan::{Fault, Reader};
 use std::alloc::{AllocError, Global};
 
-// What the format's definition reads, and what a value that was read means.
+// What the format's definition reads, and what means it in the code.
 pub(crate) trait FromBytes: Drop {
+    // What is kept of one: itself, or maybe none where an expression in it can be nested too deep.
+    type Kept;
+
     ghost Meaning: { Type 0 };
 
     ghost read_by: { List ℕ → Read Meaning };
 
-    ghost means: { Self → Meaning → Type 0 };
+    ghost means: { Self.Kept → Meaning → Type 0 };
 
-    fn read(heap: Global, reader: &mut Reader) -> Result<Self, Fault>
+    fn read(heap: Global, reader: &mut Reader) -> Result<Self::Kept, Fault>
         ensures { Reads read_by means reader.old reader.new result };
 }
 
 // All elements.
-pub(crate) fn read_list<T: FromBytes>(heap: Global, reader: &mut Reader) -> Result<Vec<T>, Fault>
+pub(crate) fn read_list<T: FromBytes<Kept = T>>(
+    heap: Global,
+    reader: &mut Reader,
+) -> Result<Vec<T>, Fault>
     ensures { Reads (read_counted T.read_by) (Each T.means) reader.old reader.new result }
 {
     let count = reader.u16()?;
@@ -32,16 +38,18 @@ pub(crate) fn read_list<T: FromBytes>(heap: Global, reader: &mut Reader) -> Resu
     Ok(items)
 }
 
-// The same of elements that may not have been kept: then no list is.
-pub(crate) fn read_kept<T: Drop>(heap: Global, reader: &mut Reader) -> Result<Option<Vec<T>>, Fault>
-where
-    Option<T>: FromBytes,
-    ensures { Reads (read_counted ⟦<Option<T> as FromBytes>⟧.read_by) (EachKept ⟦<Option<T> as FromBytes>⟧.means) reader.old reader.new result }
+// The same of elements that may not have been kept: then no list is. One function for both would need a trait of how a
+// list grows, which is no plainer.
+pub(crate) fn read_kept<T: FromBytes<Kept = Option<T>>>(
+    heap: Global,
+    reader: &mut Reader,
+) -> Result<Option<Vec<T>>, Fault>
+    ensures { Reads (read_counted T.read_by) (EachKept T.means) reader.old reader.new result }
 {
     let count = reader.u16()?;
     let mut items = Some(Vec::new(heap));
     for _ in 0..count {
-        items = append(items, <Option<T>>::read(heap, reader)?)?;
+        items = append(items, T::read(heap, reader)?)?;
     }
     Ok(items)
 }

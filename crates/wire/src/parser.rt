@@ -18,6 +18,8 @@ const DEPTH: u8 = 15;
 
 // How many bits a header has.
 impl FromBytes for u16 {
+    type Kept = u16;
+
     ghost Meaning = { ℕ };
 
     ghost read_by = { read_number 2 };
@@ -31,6 +33,8 @@ impl FromBytes for u16 {
 
 // What is in a header.
 impl FromBytes for Vec<u8> {
+    type Kept = Vec<u8>;
+
     ghost Meaning = { List ℕ };
 
     ghost read_by = { read_row 2 };
@@ -44,6 +48,8 @@ impl FromBytes for Vec<u8> {
 
 // Where a state or a case leads.
 impl FromBytes for Target {
+    type Kept = Target;
+
     ghost Meaning = { M.Target };
 
     ghost read_by = { read_target };
@@ -60,6 +66,8 @@ impl FromBytes for Target {
 }
 
 impl FromBytes for Pattern {
+    type Kept = Pattern;
+
     ghost Meaning = { M.Pattern };
 
     ghost read_by = { read_pattern };
@@ -75,6 +83,8 @@ impl FromBytes for Pattern {
 }
 
 impl FromBytes for Case {
+    type Kept = Case;
+
     ghost Meaning = { M.Case };
 
     ghost read_by = { read_case };
@@ -89,7 +99,9 @@ impl FromBytes for Case {
 }
 
 // A select key, or an expression that is assigned.
-impl FromBytes for Option<Expr> {
+impl FromBytes for Expr {
+    type Kept = Option<Expr>;
+
     ghost Meaning = { M.Expr };
 
     ghost read_by = { read_expr };
@@ -108,7 +120,9 @@ fn assign(header: u16, value: Option<Expr>) -> Option<Op>
     Some(Op::Assign(header, value?))
 }
 
-impl FromBytes for Option<Op> {
+impl FromBytes for Op {
+    type Kept = Option<Op>;
+
     ghost Meaning = { M.Op };
 
     ghost read_by = { read_op };
@@ -120,7 +134,7 @@ impl FromBytes for Option<Op> {
             0 => Ok(Some(Op::Extract(reader.u16()?))),
             _ => {
                 let header = reader.u16()?;
-                let value = <Option<Expr>>::read(heap, reader)?;
+                let value = Expr::read(heap, reader)?;
                 Ok(assign(header, value))
             }
         }
@@ -145,7 +159,9 @@ fn state(
     })
 }
 
-impl FromBytes for Option<State> {
+impl FromBytes for State {
+    type Kept = Option<State>;
+
     ghost Meaning = { M.State };
 
     ghost read_by = { read_state };
@@ -172,7 +188,9 @@ fn parser(sizes: Vec<u16>, states: Option<Vec<State>>) -> Option<Parser>
 }
 
 // None is kept where an expression in it is nested too deep.
-impl FromBytes for Option<Parser> {
+impl FromBytes for Parser {
+    type Kept = Option<Parser>;
+
     ghost Meaning = { M.Parser };
 
     ghost read_by = { read_parser };

@@ -41,6 +41,8 @@ pub enum Request {
 }
 
 impl FromBytes for Parse {
+    type Kept = Parse;
+
     ghost Meaning = { M.Request };
 
     ghost read_by = { read_parse };
@@ -48,7 +50,7 @@ impl FromBytes for Parse {
     ghost means = { Parses };
 
     fn read(heap: Global, reader: &mut Reader) -> Result<Parse, Fault> {
-        let parser = <Option<Parser>>::read(heap, reader)?;
+        let parser = Parser::read(heap, reader)?;
         let headers = read_list(heap, reader)?;
         let start = reader.u16()?;
         let input = reader.kept_row(heap, 4)?;
@@ -62,6 +64,8 @@ impl FromBytes for Parse {
 }
 
 impl FromBytes for Compare {
+    type Kept = Compare;
+
     ghost Meaning = { M.Request };
 
     ghost read_by = { read_compare };
@@ -69,8 +73,8 @@ impl FromBytes for Compare {
     ghost means = { Compares };
 
     fn read(heap: Global, reader: &mut Reader) -> Result<Compare, Fault> {
-        let first = <Option<Parser>>::read(heap, reader)?;
-        let second = <Option<Parser>>::read(heap, reader)?;
+        let first = Parser::read(heap, reader)?;
+        let second = Parser::read(heap, reader)?;
         let first_start = reader.u16()?;
         let second_start = reader.u16()?;
         let work = reader.number(8)?;
@@ -87,6 +91,8 @@ impl FromBytes for Compare {
 }
 
 impl FromBytes for Request {
+    type Kept = Request;
+
     ghost Meaning = { M.Request };
 
     ghost read_by = { read_request };

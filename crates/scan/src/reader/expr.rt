@@ -72,7 +72,7 @@ impl<'a> Reader<'a> {
         Ok(())
     }
 
-    // A part of an expression below which at most `depth` more may be in one another. None is kept where that is none.
+    // A part of an expression below which at most `depth` may be in one another, this part among them; at 0 none is kept.
     #[cycle(expr)]
     #[tactic(auto, using(crate::proofs::Trees::expr_exits))]
     fn part(&mut self, heap: Global, depth: u8) -> Result<Option<Expr>, Fault>

@@ -6,10 +6,10 @@ pub returns-in_err-read : goal.returns-in_err-read
 returns-in_err-read g c =
     let x = c.from_residual-in_err-read in
     exit _ x.result x.ensures.1
-    (counted_stopped g.bound-1.read_by c.in_ok-count.ensures.reads (listing_stopped c.loop.invariant _ (one_fewer _ _ c.loop-test.true) c.in_err-read.ensures))
+    (counted_stopped g.T.FromBytes.read_by c.in_ok-count.ensures.reads (listing_stopped c.loop.invariant _ (one_fewer _ _ c.loop-test.true) c.in_err-read.ensures))
 
 pub loop-preserved : goal.loop-preserved
 loop-preserved g c =
     let t = c.in_ok-read.ensures in
     listing_more c.loop.invariant _ (one_fewer _ _ c.loop-test.true) t _
-    (kept_more g.bound-1.means c.loop.items c.in_ok-read.field-0 _ c.loop.invariant.prefix t.value c.loop.invariant.meant t.meant c.in_ok-items.ensures)
+    (kept_more g.T.FromBytes.means c.loop.items c.in_ok-read.field-0 _ c.loop.invariant.prefix t.value c.loop.invariant.meant t.meant c.in_ok-items.ensures)

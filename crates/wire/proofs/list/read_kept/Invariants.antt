@@ -6,4 +6,4 @@ use Rattle.wire.proofs.Lists.{Listing}
 use Rattle.wire.proofs.list.read_kept.Given as goal
 
 abbrev pub invariant-loop : goal.invariant-loop
-invariant-loop g l = Listing g.bound-1.read_by (EachKept g.bound-1.means) l.initial.reader l.reader (read_many g.bound-1.read_by l.count (left l.initial.reader)) (l.count - l.counter) l.items
+invariant-loop g l = Listing g.T.FromBytes.read_by (EachKept g.T.FromBytes.means) l.initial.reader l.reader (read_many g.T.FromBytes.read_by l.count (left l.initial.reader)) (l.count - l.counter) l.items

@@ -3,7 +3,7 @@ use Rattle.model.specs.Refusal.{shallow_state}
 use Rattle.syntax.specs.View.{state_of}
 use Rattle.scan.proofs.Chain.{took, then_took}
 use Rattle.wire.proofs.Lists.{each_is, kept_within}
-use Rattle.wire.proofs.parser.OptionParserFromBytes.read.Goals as goal
+use Rattle.wire.proofs.parser.ParserFromBytes.read.Goals as goal
 
 pub returns : goal.returns
 returns c =

@@ -3,7 +3,7 @@ use Rattle.model.specs.Refusal.{shallow, shallow_op}
 use Rattle.syntax.specs.View.{op_of, expr_of, case_of}
 use Rattle.scan.proofs.Chain.{took, then_took}
 use Rattle.wire.proofs.Lists.{each_is, kept_within}
-use Rattle.wire.proofs.parser.OptionStateFromBytes.read.Goals as goal
+use Rattle.wire.proofs.parser.StateFromBytes.read.Goals as goal
 
 pub returns : goal.returns
 returns c =
