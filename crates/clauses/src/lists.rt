@@ -7,12 +7,7 @@ pub fn list_at(numbers: &[u64], s: usize) -> Option<&[u64]>
     ensures { MatchOption result (Stands numbers.now s → ⊥) (λ list. (Stands numbers.now s) × (list.now ≡ clause_at numbers.now s)) }
 {
     let n = *numbers.get(s)?;
-    let rest = &numbers[s + 1..];
-    if n <= rest.len() as u64 {
-        Some(&rest[..n as usize])
-    } else {
-        None
-    }
+    numbers[s + 1..].get(..n as usize)
 }
 
 /// Lists that stand one after the other, read from `at` on.
