@@ -1,10 +1,7 @@
 use Rattle.std.proofs.Common.{◌<◌, ◌≤◌, length, arith}
 use Rattle.std.proofs.lemmas.List.{get_or-set_same}
-use Rattle.reach.proofs.Messages.{spelling_first, within_way, spelling_skip, spelling_take, spelling_all}
+use Rattle.reach.proofs.Messages.{within_way, spelling_skip, spelling_take, spelling_all}
 use Rattle.reach.proofs.way.spell.Goals as goal
-
-pub loop-next-init : goal.loop-next-init
-loop-next-init c = (spelling_first c.args.tables.now c.args.message.now c.args.root c.args.last c.requires.below, omega arith, omega arith)
 
 pub loop-next-preserved-in-None : goal.loop-next-preserved-in-None
 loop-next-preserved-in-None c =
