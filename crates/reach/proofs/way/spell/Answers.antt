@@ -35,6 +35,6 @@ returns c =
     let few : c.loop-next.len ≤ c.args.last = omega (arith, h.0.ahead, h.0.near) in
     record {
       row = spelling_all c.args.tables.now c.loop-next.message c.args.root c.args.last c.loop-next.next c.loop-next.len h.0 c.loop-next-test.false fits;
-      few = omega (arith, get_or-set_same c.loop-next.message 0 c.loop-next.len 0 fits, few, c.requires.inside);
+      few = omega (arith, get_or-set_same c.loop-next.message 0 c.loop-next.len 0 fits, few);
       within = (h.1, omega (arith, h.2, h.0.near, few, c.requires.inside));
     }
