@@ -7,7 +7,7 @@ use Rattle.std.proofs.lemmas.Bool.{cases_eq}
 use Rattle.model.specs.Refusal.{sum}
 use Rattle.rows.specs.Row.{bits_in, row_in, row_end, rows_in, rows_end, store_in, store_end}
 use Rattle.theory.specs.Number.{number_bits, parted}
-use Rattle.compare.specs.Pieces.{Narrow, above, Stand, Outside, Laid, store_words}
+use Rattle.compare.specs.Pieces.{Narrow, above, Stand, Laid, store_words}
 use Rattle.compare.proofs.Cutting.{number_bits-add, bits_in_word}
 use Rattle.product.proofs.BitNumbers.{length-number_bits}
 use Rattle.product.proofs.Rows.{number_bits_low}
@@ -68,21 +68,6 @@ module _ (ns before room : List ℕ) (at x rest : ℕ) (narrow : Narrow ns) (l :
 
   pub store_laid_end : store_end room at ≡ at + store_words ns
   store_laid_end = ap₂ (rows_end room) l.counted (sym (add-one at)) ∙ (rows_laid ns room (at + 1) x narrow l.stand).1 ∙ (omega arith)
-
--- at the beginning
-module _ (ns room : List ℕ) (at x : ℕ) (fits : at + store_words ns ≤ length room) where
-  pub laid_none : Laid ns (set room at (length ns)) (set room at (length ns)) at x 0 x
-  laid_none = record {
-    left = sym (above_none ns x);
-    counted = get_or-set_same room at (length ns) 0 (omega arith);
-    stand = record { sizes = λ j l. absurd (not-suc-le-zero l); bits = λ j l. absurd (not-suc-le-zero l) };
-    others = λ k out. refl;
-  }
-
-  -- where how many headers there are stands is not outside
-  pub outside_count : (after : List ℕ) → Outside ns at (set room at (length ns)) after → Outside ns at room after
-  outside_count after same k out =
-      same k out ∙ get_or-set_other room at k (length ns) 0 (λ e. ⊎_elim (λ low. omega arith) (λ high. omega arith) out)
 
 -- one header more
 module _ (ns before room : List ℕ) (at x i rest next : ℕ) (narrow : Narrow ns) (fits : at + store_words ns ≤ length room) (l : Laid ns before room at x i rest) (from : next ≡ at + (1 + 2 * i)) (more : i < length ns) where

@@ -1,11 +1,9 @@
 -- What a search through all pairs found, told of the two parsers.
-use Rattle.std.proofs.Common.{◌≡◌, ℕ, ◌+◌, ◌-◌, ◌*◌, ◌/◌, ◌%◌, ◌<◌, ◌≤◌, true, false, cond, leb, List, sym, refl, ap, ◌∙◌, subst, inl, inr, ⊎_elim, arith}
-use Rattle.std.proofs.lemmas.Bool.{cases_Bool, leb-false}
+use Rattle.std.proofs.Common.{◌≡◌, ℕ, ◌+◌, ◌%◌, ◌<◌, ◌≤◌, List, sym, refl, ap, ◌∙◌, subst, inl, arith}
 use Rattle.std.proofs.lemmas.Nat.{mul-le}
 use Rattle.model.specs.Promise.{Equivalent, Distinguished, config_count, pair_count}
 use Rattle.rows.specs.Row.{row_in, store_in, store_end}
 use Rattle.reach.specs.Model.{Safe, Leads}
-use Rattle.reach.specs.Ended.{sets_words, table_words, words_for, turns_for}
 use Rattle.product.specs.Pair.{pair_model}
 use Rattle.product.specs.View.{comparison_of}
 use Rattle.product.specs.declared.product.Product.{Product}
@@ -15,7 +13,7 @@ use Rattle.model.specs.Request.{compare, refused, verdict, equivalent, distingui
 use Rattle.model.specs.Promise.{RightAnswer, Answered}
 use Rattle.machine.specs.View.{parser_in}
 use Rattle.product.specs.declared.side.Side.{Side}
-use Rattle.compare.specs.Budget.{compared, room_for, Told}
+use Rattle.compare.specs.Budget.{compared, Told}
 use Rattle.compare.specs.Headed.{Headed, header_room, second_in}
 use Rattle.theory.specs.Number.{number_config}
 use Rattle.product.proofs.Exponents.{count_some}
@@ -35,34 +33,6 @@ module _ (s : Product) where
       subst (λ bs. Distinguished (comparison_of s) (store_in room at) (store_in room (store_end room at)) bs) (sym message)
       (subst (λ t. Distinguished (comparison_of s) (store_in room at) t (row_in before after)) (sym headed.second)
       (subst (λ u. Distinguished (comparison_of s) u (number_config (second_in s) (pair % config_count (second_in s))).store (row_in before after)) (sym headed.first) told))
-
--- what is left of the room, past the tables and the message, is enough for the headers
-pub fits : (n gap words : ℕ) → gap ≤ 258 → room_for n + 65536 ≤ words → words < words_for n gap → ⊥
-fits n gap words few l short = omega arith
-
--- what is enough
-
-tables : (n : ℕ) → (n ≤ 1048576 → table_words n ≡ 3 * sets_words n + (n + 2) / 3) × (table_words n ≤ 3 * sets_words n + n + 1)
-tables n =
-    ⊎_elim
-    (λ (few : leb n 1048576 ≡ true). let e : cond (leb n 1048576) ((n + 2) / 3) n ≡ (n + 2) / 3 = ap (λ b. cond b ((n + 2) / 3) n) few in ((λ _. ap (λ k. 3 * sets_words n + k) e), omega (arith, e)))
-    (λ (many : leb n 1048576 ≡ false).
-    let e : cond (leb n 1048576) ((n + 2) / 3) n ≡ n = ap (λ b. cond b ((n + 2) / 3) n) many in
-    let large = leb-false n 1048576 many in
-    ((λ l. absurd (omega arith)), omega (arith, e)))
-    (cases_Bool (leb n 1048576))
-
-pub plenty_room : (n r : ℕ) → 0 < n → 16 * n + 65536 ≤ r → 65536 ≤ r - room_for n
-plenty_room n r some l = omega (arith, (tables n).1)
-
-pub small_room : (n r : ℕ) → n ≤ 1048576 → 524288 ≤ r → 65536 ≤ r - room_for n
-small_room n r few l = omega (arith, (tables n).0 few)
-
-pub plenty_turns : (n w : ℕ) → 0 < n → 16 * n ≤ w → turns_for n ≤ w
-plenty_turns n w some l = omega arith
-
-pub small_turns : (n w : ℕ) → n ≤ 1048576 → 16777216 ≤ w → turns_for n ≤ w
-small_turns n w few l = omega arith
 
 -- the promise, of what was told
 
@@ -84,16 +54,6 @@ module _ (s t : Side) (work room : ℕ) where
   told_answered left (equivalent w r) told = (λ _. refl, λ _. refl)
   told_answered left (distinguished u v bs w r) told = (λ _. refl, λ _. refl)
   told_answered left (exhausted w r) told = (
-    λ plenty. absurd (omega (arith, told.2, plenty_turns (pair_count (compared s t work room)) work pairs_some plenty.0)),
-    λ small. absurd (omega (arith, told.2, small_turns (pair_count (compared s t work room)) work small.0 small.1)),
-  )
-
-  -- where the tables leave too little of the room
-  pub short_right : (left : ℕ) → left ≤ room → left < 65536 → RightAnswer (compare (compared s t work room)) (exhausted work left)
-  short_right left l short = (omega arith, l, inr short)
-
-  pub short_answered : (left : ℕ) → left ≡ room - room_for (pair_count (compared s t work room)) → left < 65536 → Answered (compare (compared s t work room)) (exhausted work left)
-  short_answered left is short = (
-    λ plenty. absurd (omega (arith, plenty_room (pair_count (compared s t work room)) room pairs_some plenty.1)),
-    λ small. absurd (omega (arith, small_room (pair_count (compared s t work room)) room small.0 small.2)),
+    λ plenty. absurd (omega (arith, told.2, pairs_some, plenty.0)),
+    λ small. absurd (omega (arith, told.2, small.0, small.1)),
   )

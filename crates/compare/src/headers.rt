@@ -1,4 +1,5 @@
 // What is in the headers at first, written into the room in the form that an answer points to.
+// Functions and no methods, since sides and products are of another crate.
 ghost use Rattle.std.specs.Prelude.{◌≡◌, ℕ, ◌+◌, ◌≤◌, length};
 ghost use Rattle.model.specs.Refusal.{sum};
 ghost use Rattle.rows.specs.Row.{store_in, store_end};
@@ -50,6 +51,7 @@ fn write_store(room: &mut [u64], at: usize, sizes: &[u16], contents: u64)
 {
     room[at] = sizes.len() as u64;
     let mut rest = contents;
+    // by index, since a proof knows nothing of what was written through the parts of `chunks_mut`
     for (i, size) in sizes.iter().enumerate() {
         let next = at + 1 + 2 * i;
         room[next] = *size as u64;

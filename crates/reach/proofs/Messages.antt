@@ -16,16 +16,6 @@ bit_again zero l = refl
 bit_again (suc zero) l = refl
 bit_again (suc (suc b)) l = absurd (omega arith)
 
-pub spelling_first : (t : Tables) (message : List ℕ) (root last : ℕ) → root ≤ last → Spelling t message root last (root + 1) 0
-spelling_first t message root last below =
-    let from : root + 1 ≡ suc root = omega arith in
-    let many : suc last - (root + 1) ≡ last - root = omega arith in
-    record {
-      bits = ap (λ x. spelled (entry t) (path t) x (suc last - (root + 1))) from ∙ ap (spelled (entry t) (path t) (suc root)) many;
-      ahead = omega arith;
-      near = omega arith;
-    }
-
 module _ (t : Tables) (message : List ℕ) (root last next len : ℕ) (h : Spelling t message root last next len) where
   module _ (top : path t last ≡ true) (more : next ≤ last) where
     off_way : (j : ℕ) → Zeros t.way.now 0 next j → (x : ℕ) → next ≤ x → x < j → path t x ≡ false

@@ -34,9 +34,9 @@ Traced m work left t last (Err e) = Short work left m.count
 -- the message stands in these words
 pub record SpeltOut (t : Tables) (work left root last : ℕ) (message : List ℕ) : Type 0 where
   pub row : row_in message 0 ≡ way_bits t root last
-  pub few : slice_index message 0 ≤ t.count
-  pub within : Within work left (t.count + sets_words t.count)
+  pub few : slice_index message 0 ≤ last
+  pub within : Within work left (last + sets_words t.count)
 
 abbrev pub Spelt : ℕ → ℕ → Tables → ℕ → ℕ → List ℕ → Result (Unit {0}) Exhausted → Type 0
 Spelt work left t root last message (Ok u) = SpeltOut t work left root last message
-Spelt work left t root last message (Err e) = Short work left (t.count + sets_words t.count)
+Spelt work left t root last message (Err e) = Short work left (last + sets_words t.count)

@@ -1,4 +1,5 @@
 // Breadth first from the starts: each configuration that is reached stands in the queue once.
+// The system, the tables and the work are lent apart: in a struct of the three each method would have to say that its system stays.
 ghost use Rattle.std.specs.Prelude.{◌≡◌, ℕ, ◌+◌, ◌*◌, ◌<◌, ◌≤◌, true, false};
 ghost use Rattle.reach.specs.Sets.{blanks};
 ghost use Rattle.reach.specs.Tables.{seen, Empty, Pushed};

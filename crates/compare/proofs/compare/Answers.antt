@@ -1,20 +1,8 @@
-use Rattle.std.proofs.Common.{◌-◌, ◌≤◌, min, length, ap, ◌∙◌, subst, ap₂, arith}
-use Rattle.model.specs.Promise.{pair_count}
+use Rattle.std.proofs.Common.{◌-◌, ◌≤◌, min, length, ap, ◌∙◌, subst, arith}
 use Rattle.reply.specs.View.{answer_of}
-use Rattle.compare.specs.Budget.{compared, room_for, Told}
-use Rattle.compare.proofs.Telling.{told_right, told_answered, short_right, short_answered}
+use Rattle.compare.specs.Budget.{compared, Told}
+use Rattle.compare.proofs.Telling.{told_right, told_answered}
 use Rattle.compare.proofs.compare.Goals as goal
-
-pub returns-then-left-lt-LEAST_ROOM : goal.returns-then-left-lt-LEAST_ROOM
-returns-then-left-lt-LEAST_ROOM c =
-    let given = min c.args.most_room (length c.args.room.now) in
-    let pairs = ap₂ (λ s t. pair_count (compared s t 0 0)) c.in-Ok.ensures.0 c.in-Ok.ensures.1 in
-    let left_is = c.saturating_sub-left.ensures ∙ ap₂ (λ m n. m - n) c.min-given.ensures (c.room_for.ensures ∙ ap room_for (c.count.ensures.value ∙ pairs)) in
-    let most : c.saturating_sub-left.result ≤ min c.args.most_room (length c.args.room.now) = omega (arith, left_is) in
-    record {
-      right = short_right c.args.first c.args.second c.args.work given c.saturating_sub-left.result most c.if-left-lt-LEAST_ROOM.true;
-      answers = short_answered c.args.first c.args.second c.args.work given c.saturating_sub-left.result left_is c.if-left-lt-LEAST_ROOM.true;
-    }
 
 pub returns : goal.returns
 returns c =

@@ -1,4 +1,4 @@
-use Rattle.std.proofs.Common.{◌≡◌, ◌+◌, sym, ap, subst, arith}
+use Rattle.std.proofs.Common.{◌≡◌, ◌+◌, sym, subst}
 use Rattle.model.specs.Refusal.{sum}
 use Rattle.machine.specs.View.{sizes_in}
 use Rattle.rows.specs.Row.{store_in, store_end}
@@ -7,17 +7,11 @@ use Rattle.compare.specs.Pieces.{Narrow, Outside, store_words}
 use Rattle.compare.proofs.Heading.{first_narrow, second_narrow, headed}
 use Rattle.compare.proofs.headers.write_headers.Goals as goal
 
-pub write_store-requires : goal.write_store-requires
-write_store-requires c = record {
-  narrow = subst Narrow (sym c.as_slice.ensures.value) (second_narrow c.args.product.now);
-  room = omega (arith, c.requires, c.header_words.ensures.value, ap store_words c.as_slice.ensures.value);
-}
+pub write_store-requires-clause-narrow : goal.write_store-requires-clause-narrow
+write_store-requires-clause-narrow c = subst Narrow (sym c.as_slice.ensures.value) (second_narrow c.args.product.now)
 
-pub write_store-requires-2 : goal.write_store-requires-2
-write_store-requires-2 c = record {
-  narrow = subst Narrow (sym c.as_slice-2.ensures.value) (first_narrow c.args.product.now);
-  room = omega (arith, c.requires, c.header_words.ensures.value, c.write_store.auto.room, ap store_words c.as_slice-2.ensures.value);
-}
+pub write_store-requires-2-clause-narrow : goal.write_store-requires-2-clause-narrow
+write_store-requires-2-clause-narrow c = subst Narrow (sym c.as_slice-2.ensures.value) (first_narrow c.args.product.now)
 
 pub returns : goal.returns
 returns c =

@@ -8,7 +8,7 @@ returns-clause-answer g c =
     let traced = c.in_ok-root.ensures in
     let spelt = c.in_ok-spell.ensures in (
       leads_along (g.S.System.model c.args.system.now) c.trace.new.tables c.trace.new.work.left c.spell.new.work.left c.in_ok-root.root c.in-Some.last (c.entry.result / 2) c.spell.new.message traced.0 spelt (ap (λ x. x / 2) c.entry.ensures),
-      omega (arith, spelt.few, traced.1),
+      omega (arith, spelt.few, traced.0.inside, traced.1),
     )
 
 pub returns-clause-spent : goal.returns-clause-spent

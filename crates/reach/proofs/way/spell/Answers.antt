@@ -1,10 +1,7 @@
 use Rattle.std.proofs.Common.{◌<◌, ◌≤◌, length, arith}
 use Rattle.std.proofs.lemmas.List.{get_or-set_same}
-use Rattle.reach.proofs.Messages.{spelling_first, within_way, spelling_skip, spelling_take, spelling_all}
+use Rattle.reach.proofs.Messages.{within_way, spelling_skip, spelling_take, spelling_all}
 use Rattle.reach.proofs.way.spell.Goals as goal
-
-pub loop-next-init : goal.loop-next-init
-loop-next-init c = (spelling_first c.args.tables.now c.args.message.now c.args.root c.args.last c.requires.below, omega arith, omega arith)
 
 pub loop-next-preserved-in-None : goal.loop-next-preserved-in-None
 loop-next-preserved-in-None c =
@@ -38,6 +35,6 @@ returns c =
     let few : c.loop-next.len ≤ c.args.last = omega (arith, h.0.ahead, h.0.near) in
     record {
       row = spelling_all c.args.tables.now c.loop-next.message c.args.root c.args.last c.loop-next.next c.loop-next.len h.0 c.loop-next-test.false fits;
-      few = omega (arith, get_or-set_same c.loop-next.message 0 c.loop-next.len 0 fits, few, c.requires.inside);
+      few = omega (arith, get_or-set_same c.loop-next.message 0 c.loop-next.len 0 fits, few);
       within = (h.1, omega (arith, h.2, h.0.near, few, c.requires.inside));
     }
