@@ -1,9 +1,9 @@
 -- What stands in the first numbers.
-use Rattle.std.proofs.Common.{◌≡◌, ℕ, ◌+◌, ◌/◌, ◌<◌, ◌≤◌, List, Ok, Err, Result, length, get_or, take, sym, ◌∙◌, inl, inr, subst, slice_range, arith}
+use Rattle.std.proofs.Common.{◌≡◌, ℕ, ◌+◌, ◌<◌, ◌≤◌, List, Ok, Err, Result, length, get_or, take, sym, inl, inr, subst, slice_range, arith}
 use Rattle.std.proofs.lemmas.Grind.{common_steps}
 use Rattle.std.proofs.lemmas.List.{get_or-take, length-take-le}
 use Rattle.clauses.specs.Clauses.{Stands}
-use Rattle.entails.specs.Layouts.{Front, Below, Beyond, Laid, SomeBeyond}
+use Rattle.entails.specs.Layouts.{Below, Beyond}
 use Rattle.entails.specs.Surveys.{Scanned, Surveyed}
 use Rattle.entails.specs.declared.Question.{Question}
 use Rattle.entails.specs.declared.survey.Unfit.{Unfit}

@@ -1,5 +1,5 @@
 -- What is found for a question with its lemmas is found for the question.
-use Rattle.std.proofs.Common.{◌≡◌, ℕ, ◌<◌, ◌≤◌, Bool, List, length, take, ap, sym, ◌∙◌, subst, arith}
+use Rattle.std.proofs.Common.{◌≡◌, ℕ, ◌≤◌, Bool, length, sym, ◌∙◌, subst, arith}
 use Rattle.clauses.specs.Clauses.{Follows, clause_at, premises}
 use Rattle.entails.specs.Answers.{Refuted}
 use Rattle.entails.specs.Layouts.{Front, Laid, Same}

@@ -1,5 +1,5 @@
 -- What a survey of premises and goal says. Assumes nothing.
-use Rattle.std.specs.Prelude.{◌≡◌, ℕ, List, length, Result, Ok, Err}
+use Rattle.std.specs.Prelude.{◌≡◌, ℕ, List, Result, Ok, Err}
 use Rattle.clauses.specs.Clauses.{Stands}
 use Rattle.entails.specs.Layouts.{Beyond, Laid, SomeBeyond}
 use Rattle.entails.specs.declared.Question.{Question}

@@ -40,7 +40,10 @@ fn shown(
                 starts: starts.as_slice(),
                 most: u64::MAX,
             };
-            matches!(follows_by(&premises, known, goal, &mut lists, work), Ok(true))
+            matches!(
+                follows_by(&premises, known, goal, &mut lists, work),
+                Ok(true)
+            )
         }
         Err(Stop::Conflict) => true,
         Err(_) => false,
@@ -62,5 +65,13 @@ pub fn confirm(search: &mut Search, value: &mut [u64], trail: &mut [u64], work: 
         trail,
     };
     let (at, given, goal) = (search.at, search.given, search.goal);
-    shown(&search.numbers, at, search.starts, given, goal, &mut known, work)
+    shown(
+        &search.numbers,
+        at,
+        search.starts,
+        given,
+        goal,
+        &mut known,
+        work,
+    )
 }

@@ -5,8 +5,8 @@ ghost use Rattle.entails.specs.Layouts.{Below as Lies};
 
 use crate::Lack;
 use crate::learn::learn;
-use crate::search::Search;
 use crate::propagate::Tries;
+use crate::search::Search;
 use budget::Work;
 
 #[derive(Clone, Copy, PartialEq, Eq, Debug)]

@@ -3,9 +3,9 @@ ghost use Rattle.std.specs.Prelude.{◌≡◌, ℕ, ◌≤◌, length, OnErr, If
 ghost use Rattle.entails.specs.Searches.{Learned, ShortOf};
 
 use crate::Lack;
-use crate::search::Search;
 use crate::propagate::Tries;
 use crate::reason::Reason;
+use crate::search::Search;
 use budget::{Exhausted, Work};
 use clauses::known::UNKNOWN;
 use clauses::literal::Literal;
@@ -25,7 +25,9 @@ fn mark(premises: &Premises, value: &mut [u64], c: usize, work: &mut Work) -> Re
     };
     work.spend(clause.len() as u64 + 1)?;
     for l in clause {
-        if let Some(b) = value.get_mut(Literal::from(*l).position) && *b < UNKNOWN {
+        if let Some(b) = value.get_mut(Literal::from(*l).position)
+            && *b < UNKNOWN
+        {
             *b += MARK;
         }
     }
@@ -44,7 +46,12 @@ impl Tries<'_> {
     }
 
     // Goes down the trail from a premise that is false: whether the conflict rests on a bit that was tried. What it does not rest on is idle.
-    fn trace(&mut self, premises: &Premises, premise: usize, work: &mut Work) -> Result<bool, Exhausted>
+    fn trace(
+        &mut self,
+        premises: &Premises,
+        premise: usize,
+        work: &mut Work,
+    ) -> Result<bool, Exhausted>
         ensures less { work.new.left ≤ work.old.left }
         ensures worn { OnErr result (work.new.left ≡ 0) }
     {
@@ -68,7 +75,12 @@ impl Tries<'_> {
         ensures lemmas { search.new.count ≡ search.old.count }
     {
         let value = &*self.known.value;
-        let trail = self.known.trail.as_slice().iter().zip(self.reason.as_slice());
+        let trail = self
+            .known
+            .trail
+            .as_slice()
+            .iter()
+            .zip(self.reason.as_slice());
         let literals = trail.filter_map(|(p, why)| match Reason::from(*why) {
             Reason::Denied | Reason::Tried => Some(*p << 1 | *value.get(*p as usize)? % 2),
             _ => None,
@@ -82,16 +94,25 @@ impl Tries<'_> {
         ensures full { OnErr result (search.new.used ≡ length search.new.numbers.now) }
         ensures lemmas { search.new.count ≡ search.old.count }
     {
-        let forced = self.reason.as_slice().iter().filter_map(|why| match Reason::from(*why) {
-            Reason::Forced(c) => Some(c as u64),
-            _ => None,
-        });
+        let forced = self
+            .reason
+            .as_slice()
+            .iter()
+            .filter_map(|why| match Reason::from(*why) {
+                Reason::Forced(c) => Some(c as u64),
+                _ => None,
+            });
         search.push_list(forced.chain(Some(premise as u64)))
     }
 }
 
 /// Writes the lemma of a conflict, or the goal's hints if it rests on nothing that was tried: whether it does.
-pub fn learn(search: &mut Search, tries: &mut Tries, premise: usize, work: &mut Work) -> Result<bool, Lack>
+pub fn learn(
+    search: &mut Search,
+    tries: &mut Tries,
+    premise: usize,
+    work: &mut Work,
+) -> Result<bool, Lack>
     ensures learned { Learned search.old search.new }
     ensures less { work.new.left ≤ work.old.left }
     ensures lack { IfErr result (λ lack. ShortOf search.new work.new.left lack) }
@@ -104,7 +125,9 @@ pub fn learn(search: &mut Search, tries: &mut Tries, premise: usize, work: &mut 
         }
         tries.write_clause(search).map_err(|_| Lack::Numbers)?;
     }
-    tries.write_hints(search, premise).map_err(|_| Lack::Numbers)?;
+    tries
+        .write_hints(search, premise)
+        .map_err(|_| Lack::Numbers)?;
     if tried {
         search.add(at);
     }

@@ -116,7 +116,12 @@ impl<'a> Tries<'a> {
     }
 
     /// Assumes that the goal is false, and goes on from there: the premise that is false then, or none if no premise is open.
-    pub fn attempt(&mut self, premises: &Premises, goal: usize, work: &mut Work) -> Result<Option<usize>, Stop>
+    pub fn attempt(
+        &mut self,
+        premises: &Premises,
+        goal: usize,
+        work: &mut Work,
+    ) -> Result<Option<usize>, Stop>
         requires { (Stands premises.now.numbers.now goal) × (0 < premises.now.most) }
         ensures { work.new.left ≤ work.old.left }
     {

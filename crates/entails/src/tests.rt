@@ -48,7 +48,14 @@ fn outcomes(rt: HostRuntime) {
             1000,
             Outcome::Yes,
         ),
-        ("three of the four", &ALL_FOUR, &[0, 3, 6], 12, 1000, Outcome::No),
+        (
+            "three of the four",
+            &ALL_FOUR,
+            &[0, 3, 6],
+            12,
+            1000,
+            Outcome::No,
+        ),
         (
             "pigeons",
             &PIGEONS,
@@ -73,7 +80,14 @@ fn outcomes(rt: HostRuntime) {
             60,
             Outcome::Exhausted(Lack::Work),
         ),
-        ("a bit or its negation", &[2, 0, 1], &[], 0, 1000, Outcome::Yes),
+        (
+            "a bit or its negation",
+            &[2, 0, 1],
+            &[],
+            0,
+            1000,
+            Outcome::Yes,
+        ),
         (
             "a start beyond the numbers",
             &ALL_FOUR,
@@ -82,7 +96,14 @@ fn outcomes(rt: HostRuntime) {
             1000,
             Outcome::Malformed,
         ),
-        ("a seventh bit", &[1, 12], &[], 0, 1000, Outcome::Exhausted(Lack::Value)),
+        (
+            "a seventh bit",
+            &[1, 12],
+            &[],
+            0,
+            1000,
+            Outcome::Exhausted(Lack::Value),
+        ),
     ];
     for (what, clauses, starts, goal, work, expected) in rows {
         let answer = run(clauses, starts, goal, work, &mut [2; 6]);

@@ -14,22 +14,22 @@ returns-in_err-enough-clause-right c =
 pub returns-then-not-believed-clause-learned : goal.returns-then-not-believed-clause-learned
 returns-then-not-believed-clause-learned c =
     elim c.match-found.branch [
-      in-Shown w ↦ rw w.search-is (learned_checked c.args.search.now c.hunt.new.search c.requires.begins.1 c.hunt.ensures.learned w.confirm-believed.new.search w.confirm-believed.ensures.checked)
-    | in-Model w ↦ rw w.search-is c.hunt.ensures.learned
+      | in-Shown w ↦ rw w.search-is (learned_checked c.args.search.now c.hunt.new.search c.requires.begins.1 c.hunt.ensures.learned w.confirm-believed.new.search w.confirm-believed.ensures.checked)
+      | in-Model w ↦ rw w.search-is c.hunt.ensures.learned
     ]
 
 pub returns-clause-learned : goal.returns-clause-learned
 returns-clause-learned c =
     elim c.match-found.branch [
-      in-Shown w ↦ rw w.search-is (learned_checked c.args.search.now c.hunt.new.search c.requires.begins.1 c.hunt.ensures.learned w.confirm-believed.new.search w.confirm-believed.ensures.checked)
-    | in-Model w ↦ rw w.search-is c.hunt.ensures.learned
+      | in-Shown w ↦ rw w.search-is (learned_checked c.args.search.now c.hunt.new.search c.requires.begins.1 c.hunt.ensures.learned w.confirm-believed.new.search w.confirm-believed.ensures.checked)
+      | in-Model w ↦ rw w.search-is c.hunt.ensures.learned
     ]
 
 pub returns-clause-right : goal.returns-clause-right
 returns-clause-right c =
     elim c.match-found.branch [
-      in-Shown w ↦ rw w.in-Shown.is (follows_asked c.args.search.now c.hunt.new.search c.requires.begins.1 c.hunt.ensures.learned c.requires.laid
+      | in-Shown w ↦ rw w.in-Shown.is (follows_asked c.args.search.now c.hunt.new.search c.requires.begins.1 c.hunt.ensures.learned c.requires.laid
           (w.confirm-believed.ensures.sound (sym w.believed-is ∙ c.if-not-believed.false)))
-    | in-Model w ↦ rw (w.in-Model.is, w.room-is) (refuted_asked c.args.search.now c.hunt.new.search c.requires.begins.1 c.hunt.ensures.learned c.requires.laid
+      | in-Model w ↦ rw (w.in-Model.is, w.room-is) (refuted_asked c.args.search.now c.hunt.new.search c.requires.begins.1 c.hunt.ensures.learned c.requires.laid
           (says c.hunt.new.value) (w.refutes-believed.ensures (sym w.believed-is ∙ c.if-not-believed.false)))
     ]

@@ -1,5 +1,5 @@
-use Rattle.std.proofs.Common.{Ok, Err, take, sym, ap, subst}
-use Rattle.clauses.specs.Clauses.{All, clauses_at, premises}
+use Rattle.std.proofs.Common.{Ok, Err, sym, ap, subst}
+use Rattle.clauses.specs.Clauses.{All, clauses_at}
 use Rattle.clauses.specs.Steps.{Both, stacked}
 use Rattle.entails.proofs.confirm.shown.Goals as goal
 
@@ -11,4 +11,4 @@ returns-in-Ok-true-clause-sound c = λ _ v fits all.
 pub returns-in-Err-Conflict-clause-sound : goal.returns-in-Err-Conflict-clause-sound
 returns-in-Err-Conflict-clause-sound c = λ _ v fits all.
     absurd (subst (λ e. Both c.add_lemmas.new.known v (stacked c.args.numbers.now.now c.add_lemmas.new.starts) (Err e)) c.in-Err-Conflict.field-0-is
-        (c.in-Err-Conflict.ensures.after v fits (rw (c.new-starts.ensures.room, c.new-starts.ensures.len c.requires) all)))
+    (c.in-Err-Conflict.ensures.after v fits (rw (c.new-starts.ensures.room, c.new-starts.ensures.len c.requires) all)))

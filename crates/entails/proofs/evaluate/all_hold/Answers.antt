@@ -1,4 +1,4 @@
-use Rattle.std.proofs.Common.{get_or, below_more, subst, ap, ◌∙◌, arith}
+use Rattle.std.proofs.Common.{get_or, below_more, subst, arith}
 use Rattle.clauses.specs.Clauses.{Sat, clause_at}
 use Rattle.entails.specs.Answers.{says}
 use Rattle.entails.proofs.Says.{all_from}
