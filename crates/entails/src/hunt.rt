@@ -1,7 +1,7 @@
 // Lemmas are learned until the goal is shown, or bits are found. Nothing of this is believed: what it owes is that it ends, and leaves what it was given.
 ghost use Rattle.std.specs.Prelude.{◌≡◌, ℕ, ◌<◌, ◌≤◌, length, IfErr};
 ghost use Rattle.entails.specs.Searches.{Learned, ShortOf};
-ghost use Rattle.entails.specs.Layouts.{Below as Lies};
+ghost use Rattle.entails.specs.Layouts.{Below};
 
 use crate::Lack;
 use crate::learn::learn;
@@ -19,7 +19,7 @@ pub enum Found {
 
 // One attempt, and what is learned of it: one more lemma where nothing is found.
 fn turn(search: &mut Search, tries: &mut Tries, work: &mut Work) -> Result<Option<Found>, Lack>
-    requires { Lies search.old.numbers.now search.old.used search.old.goal }
+    requires { Below search.old.numbers.now search.old.used search.old.goal }
     ensures learned { Learned search.old search.new }
     ensures less { work.new.left ≤ work.old.left }
     ensures lack { IfErr result (λ lack. ShortOf search.new work.new.left lack) }
@@ -42,7 +42,7 @@ fn turn(search: &mut Search, tries: &mut Tries, work: &mut Work) -> Result<Optio
 
 // Turns, while there is work.
 fn turns(search: &mut Search, tries: &mut Tries, work: &mut Work) -> Result<Found, Lack>
-    requires { Lies search.old.numbers.now search.old.used search.old.goal }
+    requires { Below search.old.numbers.now search.old.used search.old.goal }
     ensures learned { Learned search.old search.new }
     ensures less { work.new.left ≤ work.old.left }
     ensures lack { IfErr result (λ lack. ShortOf search.new work.new.left lack) }
@@ -63,7 +63,7 @@ pub fn hunt(
     reason: &mut [u64],
     work: &mut Work,
 ) -> Result<Found, Lack>
-    requires stands { Lies search.old.numbers.now search.old.used search.old.goal }
+    requires stands { Below search.old.numbers.now search.old.used search.old.goal }
     requires begins { (search.old.at ≡ search.old.used) × (search.old.given ≡ search.old.count) }
     ensures learned { Learned search.old search.new }
     ensures less { work.new.left ≤ work.old.left }

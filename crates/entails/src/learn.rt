@@ -75,13 +75,9 @@ impl Tries<'_> {
         ensures lemmas { search.new.count ≡ search.old.count }
     {
         let value = &*self.known.value;
-        let trail = self
-            .known
-            .trail
-            .as_slice()
-            .iter()
-            .zip(self.reason.as_slice());
-        let literals = trail.filter_map(|(p, why)| match Reason::from(*why) {
+        let trail = self.known.trail.as_slice();
+        let reasons = trail.iter().zip(self.reason.as_slice());
+        let literals = reasons.filter_map(|(p, why)| match Reason::from(*why) {
             Reason::Denied | Reason::Tried => Some(*p << 1 | *value.get(*p as usize)? % 2),
             _ => None,
         });
@@ -94,19 +90,16 @@ impl Tries<'_> {
         ensures full { OnErr result (search.new.used ≡ length search.new.numbers.now) }
         ensures lemmas { search.new.count ≡ search.old.count }
     {
-        let forced = self
-            .reason
-            .as_slice()
-            .iter()
-            .filter_map(|why| match Reason::from(*why) {
-                Reason::Forced(c) => Some(c as u64),
-                _ => None,
-            });
+        let reasons = self.reason.as_slice();
+        let forced = reasons.iter().filter_map(|why| match Reason::from(*why) {
+            Reason::Forced(c) => Some(c as u64),
+            _ => None,
+        });
         search.push_list(forced.chain(Some(premise as u64)))
     }
 }
 
-/// Writes the lemma of a conflict, or the goal's hints if it rests on nothing that was tried: whether it does.
+/// Writes the lemma of a conflict, or, if it rests on nothing that was tried, the goal's hints: whether it was a lemma.
 pub fn learn(
     search: &mut Search,
     tries: &mut Tries,
@@ -117,19 +110,20 @@ pub fn learn(
     ensures less { work.new.left ≤ work.old.left }
     ensures lack { IfErr result (λ lack. ShortOf search.new work.new.left lack) }
 {
-    let tried = tries.trace(&search.all(), premise, work)?;
-    let at = search.used;
-    if tried {
-        if search.count == search.starts.len() {
-            return Err(Lack::Starts);
-        }
-        tries.write_clause(search).map_err(|_| Lack::Numbers)?;
+    if !tries.trace(&search.all(), premise, work)? {
+        tries
+            .write_hints(search, premise)
+            .map_err(|_| Lack::Numbers)?;
+        return Ok(false);
     }
+    if search.count == search.starts.len() {
+        return Err(Lack::Starts);
+    }
+    let at = search.used;
+    tries.write_clause(search).map_err(|_| Lack::Numbers)?;
     tries
         .write_hints(search, premise)
         .map_err(|_| Lack::Numbers)?;
-    if tried {
-        search.add(at);
-    }
-    Ok(tried)
+    search.add(at);
+    Ok(true)
 }

@@ -1,6 +1,7 @@
 //! Whether a clause follows from others for all bits, by trying: nothing that is found is believed until it was checked.
-// Read survey (are premises and goal as they should be), search (a question with the lemmas that are learned), propagate (bits that are forced, and tried; reason says why), learn
-// (what a conflict rests on), hunt (until the goal is shown or bits are found), evaluate and confirm (what is believed of that), and then `follows` here.
+// Read survey (are premises and goal as they should be), search (a question with the lemmas that are learned), propagate (bits that are forced, and tried;
+// reason says why), learn (what a conflict rests on), hunt (until the goal is shown or bits are found), evaluate and confirm (what is believed of that), and
+// then `follows` here.
 #![tactic(auto)]
 
 ghost use Rattle.std.specs.Prelude.{◌≡◌, ℕ, ◌<◌, ◌≤◌, List, length, IfErr, OnOk};
@@ -64,7 +65,7 @@ pub struct Question<'a> {
     pub goal: usize,
 }
 
-/// Room to look for an answer: a number for each position, and two as long for the bits that are known and why they are.
+/// Room to look for an answer: `value` has a number for each position, and the others as many or more.
 #[derive(Drop)]
 pub struct Room<'a> {
     pub value: &'a mut [u64],
@@ -83,7 +84,7 @@ pub struct Answer {
     pub left: u64,
 }
 
-/// Answers a question. It stays as it was asked.
+/// Answers a question, which stays as it was asked.
 pub fn follows(question: &mut Question, room: &mut Room, work: u64) -> Answer
     ensures { Right question.old room.old work question.new room.new result }
 {

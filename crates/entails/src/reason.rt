@@ -1,4 +1,4 @@
-// Why a bit stands on the trail, as it is kept in lent room.
+// Why a bit stands on the trail. In lent room it is a number: that of the premise that forced it, or one of three.
 
 #[derive(Clone, Copy, PartialEq, Eq, Debug)]
 pub enum Reason {
