@@ -23,11 +23,8 @@ POINTS = {
         r"^\s*loop \{",
         r"\.enumerate\(\)",
     ],
-    "4": [
-        r"\bfn (is_reject|number|told|name|hex|eq|cmp|clone|fmt)\b",
-        r"^impl.* (From|TryFrom|fmt::Display|PartialEq|Ord|Clone)\b",
-    ],
-    "7": [r"macro_rules!", r"\bdyn\b", r": fn\(", r"match (parts|i|tag) \{"],
+    "4": [r"\bfn (is_reject|told|name|hex|eq|cmp|clone|fmt)\b|\bfn number\(self\)"],
+    "7": [r"macro_rules!", r"\bdyn\b", r": fn\(", r"match (parts|i|tag) \{|match .*\btag\(\d\)\? \{"],
 }
 
 FUNCTION = re.compile(r"^\s*(?:pub(?:\(crate\))? )?fn (\w+)(?:<[^(]*>)?\((.*)$")
