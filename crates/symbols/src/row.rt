@@ -5,14 +5,13 @@ ghost use Rattle.symbols.specs.View.{in_row};
 ghost use Rattle.symbols.specs.Symbol.{symbol};
 ghost use Rattle.machine.specs.Window.{Written};
 
-// n places from `at` on get the symbols of the positions from `first` on. They are written by their index,
-// since nothing would be known of them after an `iter_mut`.
+// n places from `at` on get the symbols of the positions from `first` on
 pub(crate) fn number(row: &mut [u64], at: usize, n: usize, first: u32)
     requires { at + n ≤ length row.old }
     ensures { Written (in_row row.old) (in_row row.new) (part symbol first n) at n }
 {
-    for i in 0..n {
-        row[at + i] = 2 + (first as u64 + i as u64);
+    for (i, symbol) in row[at..at + n].iter_mut().enumerate() {
+        *symbol = 2 + (first as u64 + i as u64);
     }
 }
 
@@ -25,7 +24,7 @@ pub(crate) fn copy(row: &mut [u64], at: usize, other: &[u64], start: usize, n: u
     row[at..at + n].copy_from_slice(&other[start..start + n]);
 }
 
-// Places from `at` on get these bits, by their index too.
+// Places from `at` on get these bits. They are written by their index: of an `iter_mut` that is zipped nothing would be known.
 pub(crate) fn write(row: &mut [u64], at: usize, bits: &[u8])
     requires { at + length bits.now ≤ length row.old }
     ensures { Written (in_row row.old) (in_row row.new) bits.now at (length bits.now) }

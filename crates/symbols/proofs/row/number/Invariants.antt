@@ -1,8 +1,7 @@
+use Rattle.std.proofs.Common.{◌≡◌, take}
 use Rattle.machine.specs.Row.{part}
-use Rattle.symbols.specs.View.{in_row}
 use Rattle.symbols.specs.Symbol.{symbol}
-use Rattle.machine.specs.Window.{Written}
 use Rattle.symbols.proofs.row.number.Given as goal
 
 abbrev pub invariant-loop-i : goal.invariant-loop-i
-invariant-loop-i l = Written (in_row l.initial.row) (in_row l.row) (part symbol l.first l.n) l.at l.i
+invariant-loop-i l = take l.i l.symbol-items ≡ part symbol l.first l.i
