@@ -18,7 +18,7 @@ pub(crate) fn named(parser: &Parser) -> bool
     names.states(&parser.states)
 }
 
-// The headers that are there, by their sizes, and how many states.
+// The headers that are there, by their sizes, and how many states. A chain has a function of its own, where the check proves it alone.
 #[derive(Clone, Copy)]
 struct Names<'a> {
     sizes: &'a [u16],

@@ -12,7 +12,7 @@ pub(crate) trait Parts {
         ensures { Spent (parts self.now) left result };
 }
 
-// What is left after all.
+// What is left after all. Written out once, since `try_fold` would want a lemma at each use.
 pub(crate) fn pay_all<X: Parts>(elements: &[X], mut left: usize) -> Option<usize>
     ensures { Spent (total X.parts elements.now) left result }
 {

@@ -20,7 +20,7 @@ pub(crate) fn sized(parser: &Parser) -> bool
     Widths::new(&parser.sizes).states(&parser.states)
 }
 
-// How wide the headers are.
+// How wide the headers are. A chain has a function of its own, where the check proves it alone.
 #[derive(Clone, Copy)]
 pub(crate) struct Widths<'a> {
     pub(crate) sizes: &'a [u16],

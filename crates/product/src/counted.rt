@@ -5,7 +5,7 @@ ghost use Rattle.machine.specs.View.{parser_in};
 
 use crate::side::Side;
 
-// How many there are, the numbers being those below.
+// How many there are: each has a number below that.
 #[derive(Drop)]
 pub struct Counted {
     pub side: Side,

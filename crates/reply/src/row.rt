@@ -1,4 +1,4 @@
-// A row of bits in the room.
+// A row of bits in the room. Bits are asked for by number, as they are cut out of words.
 ghost use Rattle.std.specs.Prelude.{◌≡◌};
 ghost use Rattle.rows.specs.Row.{bit_in};
 
