@@ -30,7 +30,7 @@ pub enum Bit {
 }
 
 impl<'a> Known<'a> {
-    ghost use Rattle.std.specs.Prelude.{◌≡◌, ℕ, ◌<◌, ◌≤◌, Bool, ◌⊎◌, List, length, slice_index, IsErrOf};
+    ghost use Rattle.std.specs.Prelude.{◌≡◌, ℕ, ◌<◌, ◌≤◌, Bool, ◌⊎◌, List, length, take, slice_index, IsErrOf};
     ghost use Rattle.clauses.specs.Clauses.{bit, Sat};
     ghost use Rattle.clauses.specs.Known.{Allows, Resolved, Kept, Undone};
     ghost use Rattle.clauses.specs.Steps.{After};
@@ -54,6 +54,13 @@ impl<'a> Known<'a> {
             trail,
             depth: n,
         }
+    }
+
+    /// The positions that were assumed, in order.
+    pub fn assumed(&self) -> &[u64]
+        ensures { result.now ≡ take self.now.depth self.now.trail.now }
+    {
+        &self.trail[..self.depth]
     }
 
     #[tactic(auto, unfolding(crate::specs::Clauses::bit))]
