@@ -8,7 +8,7 @@ ghost use Rattle.records.specs.Record.{room_wanted};
 
 pub use records::{Record, Records};
 
-// How much room the bytes of a request ask for.
+// How much room the bytes of a request ask for; 0 where they ask for none, which is lent then.
 pub fn wanted_room(request: &[u8]) -> u64
     ensures { result ≡ room_wanted request.now }
 {
