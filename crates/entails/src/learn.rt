@@ -7,7 +7,7 @@ use crate::propagate::Tries;
 use crate::reason::Reason;
 use crate::search::Search;
 use budget::{Exhausted, Work};
-use clauses::known::UNKNOWN;
+use clauses::known::{Known, UNKNOWN};
 use clauses::literal::Literal;
 use clauses::premises::Premises;
 use clauses::stack::Full;
@@ -16,7 +16,7 @@ use clauses::stack::Full;
 const MARK: u64 = 4;
 
 // Marks the bits of premise c, if it is there.
-fn mark(premises: &Premises, value: &mut [u64], c: usize, work: &mut Work) -> Result<(), Exhausted>
+fn mark(premises: &Premises, known: &mut Known, c: usize, work: &mut Work) -> Result<(), Exhausted>
     ensures less { work.new.left ≤ work.old.left }
     ensures worn { OnErr result (work.new.left ≡ 0) }
 {
@@ -25,10 +25,9 @@ fn mark(premises: &Premises, value: &mut [u64], c: usize, work: &mut Work) -> Re
     };
     work.spend(clause.len() as u64 + 1)?;
     for l in clause {
-        if let Some(b) = value.get_mut(Literal::from(*l).position)
-            && *b < UNKNOWN
-        {
-            *b += MARK;
+        let p = Literal::from(*l).position;
+        if p < known.value.len() && known.value[p] < UNKNOWN {
+            known.value[p] += MARK;
         }
     }
     Ok(())
@@ -37,7 +36,7 @@ fn mark(premises: &Premises, value: &mut [u64], c: usize, work: &mut Work) -> Re
 impl Tries<'_> {
     // Why the bit at this depth of the trail is there, if the conflict rests on it.
     fn rests_on(&self, d: usize) -> Option<Reason> {
-        let p = *self.known.trail.as_slice().get(d)?;
+        let p = *self.known.trail.get(d)?;
         let why = *self.reason.as_slice().get(d)?;
         if *self.known.value.get(p as usize)? < MARK {
             return None;
@@ -55,13 +54,13 @@ impl Tries<'_> {
         ensures less { work.new.left ≤ work.old.left }
         ensures worn { OnErr result (work.new.left ≡ 0) }
     {
-        mark(premises, self.known.value, premise, work)?;
+        mark(premises, &mut self.known, premise, work)?;
         let mut tried = false;
         for d in (0..self.reason.len).rev() {
             match self.rests_on(d) {
                 None => self.reason.room[d] = Reason::Idle.into(),
                 Some(Reason::Tried) => tried = true,
-                Some(Reason::Forced(c)) => mark(premises, self.known.value, c, work)?,
+                Some(Reason::Forced(c)) => mark(premises, &mut self.known, c, work)?,
                 Some(Reason::Denied | Reason::Idle) => {}
             }
         }
@@ -75,7 +74,7 @@ impl Tries<'_> {
         ensures lemmas { search.new.count ≡ search.old.count }
     {
         let value = &*self.known.value;
-        let trail = self.known.trail.as_slice();
+        let trail = &self.known.trail[..self.known.depth];
         let reasons = trail.iter().zip(self.reason.as_slice());
         let literals = reasons.filter_map(|(p, why)| match Reason::from(*why) {
             Reason::Denied | Reason::Tried => Some(*p << 1 | *value.get(*p as usize)? % 2),

@@ -19,12 +19,19 @@ pub struct Tries<'a> {
     pub reason: Stack<'a>,
 }
 
+// All bits are unknown from now on.
+fn forget(known: &mut Known) {
+    known.value.fill(UNKNOWN);
+    known.depth = 0;
+}
+
 impl<'a> Tries<'a> {
     pub fn new(value: &'a mut [u64], trail: &'a mut [u64], reason: &'a mut [u64]) -> Tries<'a> {
         let known = Known {
             rep: &[],
             value,
-            trail: Stack::new(trail, 0),
+            trail,
+            depth: 0,
         };
         Tries {
             known,
@@ -32,16 +39,9 @@ impl<'a> Tries<'a> {
         }
     }
 
-    // All bits are unknown.
-    fn forget(&mut self) {
-        self.known.value.fill(UNKNOWN);
-        self.known.trail.len = 0;
-        self.reason.len = 0;
-    }
-
     // What is new on the trail stands there for this reason.
     fn note(&mut self, why: Reason) -> Result<(), Full> {
-        for _ in self.reason.len..self.known.trail.len {
+        for _ in self.reason.len..self.known.depth {
             self.reason.push(why.into())?;
         }
         Ok(())
@@ -100,12 +100,12 @@ impl<'a> Tries<'a> {
     {
         loop {
             work.spend(1)?;
-            let depth = self.known.trail.len;
+            let depth = self.known.depth;
             let clash = self.pass(premises, work)?;
             if clash.is_some() {
                 return Ok(clash);
             }
-            if self.known.trail.len == depth {
+            if self.known.depth == depth {
                 let Some(l) = self.open(premises, work)? else {
                     return Ok(None);
                 };
@@ -125,7 +125,8 @@ impl<'a> Tries<'a> {
         requires { (Stands premises.now.numbers.now goal) × (0 < premises.now.most) }
         ensures { work.new.left ≤ work.old.left }
     {
-        self.forget();
+        forget(&mut self.known);
+        self.reason.len = 0;
         let denied = self.known.deny(list_at(premises.numbers, goal).unwrap());
         self.note(Reason::Denied)?;
         match denied {
