@@ -36,8 +36,16 @@ impl<'a> Reader<'a> {
         Reader { bytes, at: 0 }
     }
 
+    // At an offset of the bytes.
+    pub fn begin_at(bytes: &'a [u8], at: usize) -> Reader<'a>
+        requires { at ≤ length bytes.now }
+        ensures { result ≡ record { bytes = bytes.now; at = at } }
+    {
+        Reader { bytes, at }
+    }
+
     // The offset of what comes next.
-    fn offset(&self) -> usize
+    pub fn offset(&self) -> usize
         ensures at { result ≡ self.now.at }
         ensures within { self.now.at ≤ length self.now.bytes }
     {
