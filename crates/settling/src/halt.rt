@@ -9,7 +9,7 @@ use crate::refusal::Refusal;
 use scan::Fault;
 use std::alloc::AllocError;
 
-#[derive(Drop)]
+#[derive(Clone, Copy, PartialEq, Eq, Debug)]
 pub enum Halt {
     Refused(Refusal),
     // want of memory: that is no answer
@@ -39,6 +39,7 @@ impl From<Fault> for Halt {
     fn from(fault: Fault) -> Halt {
         match fault {
             Fault::Garbled(at) => Halt::Refused(Refusal::Garbled(at)),
+            // scan's fault keeps no error to hand on
             Fault::Memory => Halt::Memory(AllocError),
         }
     }
