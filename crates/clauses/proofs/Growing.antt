@@ -3,7 +3,7 @@ use Rattle.std.proofs.Common.{◌≡◌, ℕ, ◌+◌, ◌-◌, ◌*◌, ◌<◌
 use Rattle.std.proofs.lemmas.List.{take-take, take-set}
 use Rattle.clauses.specs.Clauses.{Sat, All, clause_at}
 use Rattle.clauses.specs.Steps.{After, Both, ReadOn, stacked, Grown}
-use Rattle.clauses.specs.declared.known.Known.{Known as Bits}
+use Rattle.clauses.specs.declared.known.Known.{Known as Knowledge}
 use Rattle.clauses.specs.declared.lists.Lists.{Lists}
 use Rattle.clauses.specs.declared.stack.Stack.{Stack}
 use Rattle.clauses.specs.declared.stop.Stop.{Stop}
@@ -13,7 +13,7 @@ use Rattle.clauses.proofs.Sats.{all_more}
 use Rattle.clauses.proofs.Spending.{spent_none, spent_on}
 use Rattle.clauses.proofs.Trails.{kept_none, kept_both}
 
-pub both : (v : ℕ → Bool) (k : Bits) (cs : List (List ℕ)) (r : Result (Unit {0}) Stop) → After k v r → All v cs → Both k v cs r
+pub both : (v : ℕ → Bool) (k : Knowledge) (cs : List (List ℕ)) (r : Result (Unit {0}) Stop) → After k v r → All v cs → Both k v cs r
 both v k cs (Ok _) h all = (h, all)
 both v k cs (Err Conflict) h all = h
 both v k cs (Err Refused) h all = tt
@@ -23,7 +23,7 @@ front_more : (xs ys zs : List ℕ) (n m : ℕ) → n ≤ m → take n ys ≡ tak
 front_more xs ys zs n m le p q = sym (take-take n m zs le) ∙ ap (take n) q ∙ take-take n m ys le ∙ p
 
 -- some, and then more
-pub grown_more : (most : ℕ) (l : Lists) (s : Stack) (k : Bits) (w : ℕ) (l₁ : Lists) (s₁ : Stack) (k₁ : Bits) (w₁ : ℕ) (l₂ : Lists) (s₂ : Stack) (k₂ : Bits) (w₂ : ℕ) (r : Result (Unit {0}) Stop) → Grown most l s k w l₁ s₁ k₁ w₁ (Ok tt) → Grown most l₁ s₁ k₁ w₁ l₂ s₂ k₂ w₂ r → Grown most l s k w l₂ s₂ k₂ w₂ r
+pub grown_more : (most : ℕ) (l : Lists) (s : Stack) (k : Knowledge) (w : ℕ) (l₁ : Lists) (s₁ : Stack) (k₁ : Knowledge) (w₁ : ℕ) (l₂ : Lists) (s₂ : Stack) (k₂ : Knowledge) (w₂ : ℕ) (r : Result (Unit {0}) Stop) → Grown most l s k w l₁ s₁ k₁ w₁ (Ok tt) → Grown most l₁ s₁ k₁ w₁ l₂ s₂ k₂ w₂ r → Grown most l s k w l₂ s₂ k₂ w₂ r
 grown_more most l s k w l₁ s₁ k₁ w₁ l₂ s₂ k₂ w₂ r g h = record {
   kept = kept_both k k₁ k₂ g.kept h.kept;
   after = λ v fits all.
@@ -38,7 +38,7 @@ grown_more most l s k w l₁ s₁ k₁ w₁ l₂ s₂ k₂ w₂ r g h = record {
 }
 
 -- a number was read
-pub grown_read : (most : ℕ) (l : Lists) (s : Stack) (k : Bits) (w : ℕ) (l₁ : Lists) → ReadOn l l₁ → Grown most l s k w l₁ s k w (Ok tt)
+pub grown_read : (most : ℕ) (l : Lists) (s : Stack) (k : Knowledge) (w : ℕ) (l₁ : Lists) → ReadOn l l₁ → Grown most l s k w l₁ s k w (Ok tt)
 grown_read most l s k w l₁ read = record {
   kept = kept_none k;
   after = λ v fits all. (fits, all);

@@ -1,4 +1,4 @@
-pub mod Bits
+pub mod Signs
 pub mod Growing
 pub mod Looks
 pub mod Reading

@@ -3,7 +3,7 @@ use Rattle.std.proofs.Common.{◌≡◌, ℕ, ◌+◌, ◌/◌, ◌%◌, ◌<◌
 use Rattle.std.proofs.lemmas.List.{length-take, get_or-take, take_more_set, map_push, get_or-map, length-map, length_push, get_or_push, get_or_append_left}
 use Rattle.std.proofs.lemmas.Bool.{cases_eq}
 use Rattle.clauses.specs.Clauses.{bit, Holds, Sat, All, clause_at, clauses_at}
-use Rattle.clauses.proofs.Bits.{holds_or}
+use Rattle.clauses.proofs.Signs.{holds_or}
 
 -- with one more literal
 module _ (v : ℕ → Bool) (ls : List ℕ) (l : ℕ) where

@@ -3,7 +3,7 @@ use Rattle.std.proofs.Common.{◌≡◌, ℕ, ◌+◌, ◌<◌, ◌≤◌, Bool,
 use Rattle.std.proofs.lemmas.List.{get_or-set_same, get_or-set_other, get_or_past, ext_get_or}
 use Rattle.std.proofs.lemmas.Bool.{cases_eq}
 use Rattle.clauses.specs.Known.{Allows, Trailed, On, Since, Kept, Undone}
-use Rattle.clauses.specs.declared.known.Known.{Known as Bits}
+use Rattle.clauses.specs.declared.known.Known.{Known as Knowledge}
 
 -- the last taken from the trail
 pub trailed_pop : (before value trail : List ℕ) (base d q : ℕ) → Trailed before value trail base (d + 1) → base ≤ d → get_or trail d 0 ≡ q → q < length value → Trailed before (set value q 2) trail base d
@@ -46,15 +46,15 @@ trailed_back before value trail d h =
     ext_get_or 0 value before h.long
     (λ i l. ⊎_elim (λ old. old) (λ (on : On trail d d i). absurd (omega (arith, on.1, on.2))) (h.changed i))
 
-pub allows_same : (v : ℕ → Bool) (k k' : Bits) → k'.rep ≡ k.rep → k'.value.now ≡ k.value.now → Allows k v → Allows k' v
+pub allows_same : (v : ℕ → Bool) (k k' : Knowledge) → k'.rep ≡ k.rep → k'.value.now ≡ k.value.now → Allows k v → Allows k' v
 allows_same v k k' rep value h = rw (rep, value) h
 
 -- nothing happened
-pub kept_none : (k : Bits) → Kept k k
+pub kept_none : (k : Knowledge) → Kept k k
 kept_none k = record { rep = refl; value = refl; trail = refl; undoes = λ before base h. h }
 
 -- one step and then another
-pub kept_both : (k k₁ k₂ : Bits) → Kept k k₁ → Kept k₁ k₂ → Kept k k₂
+pub kept_both : (k k₁ k₂ : Knowledge) → Kept k k₁ → Kept k₁ k₂ → Kept k k₂
 kept_both k k₁ k₂ h g = record {
   rep = g.rep ∙ h.rep;
   value = g.value ∙ h.value;
@@ -63,7 +63,7 @@ kept_both k k₁ k₂ h g = record {
 }
 
 -- some steps and then undone
-module _ (k k₁ k₂ : Bits) (kept : Kept k k₁) (undone : Undone k₁ k.depth k₂) where
+module _ (k k₁ k₂ : Knowledge) (kept : Kept k k₁) (undone : Undone k₁ k.depth k₂) where
   entry : Since k.value.now k.depth k₁
   entry = kept.undoes k.value.now k.depth (trailed_none k.value.now k.trail.now k.depth k.within)
 

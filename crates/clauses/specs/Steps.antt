@@ -3,7 +3,7 @@ use Rattle.std.specs.Prelude.{◌≡◌, ℕ, ◌-◌, ◌*◌, ◌≤◌, Bool,
 use Rattle.clauses.specs.Clauses.{All, clauses_at}
 use Rattle.clauses.specs.Known.{Allows, Kept}
 use Rattle.clauses.specs.Budget.{Spent}
-use Rattle.clauses.specs.declared.known.Known.{Known as Bits}
+use Rattle.clauses.specs.declared.known.Known.{Known as Knowledge}
 use Rattle.clauses.specs.declared.lists.Lists.{Lists}
 use Rattle.clauses.specs.declared.premises.Premises.{Premises}
 use Rattle.clauses.specs.declared.stack.Stack.{Stack}
@@ -15,14 +15,14 @@ abbrev pub clauses_of : Premises → List (List ℕ)
 clauses_of p = clauses_at p.numbers.now p.starts.now
 
 -- what is known of a valuation at the end of a step
-abbrev pub After : Bits → (ℕ → Bool) → Result (Unit {0}) Stop → Type 0
+abbrev pub After : Knowledge → (ℕ → Bool) → Result (Unit {0}) Stop → Type 0
 After k v (Ok _) = Allows k v
 After k v (Err Conflict) = ⊥
 After k v (Err Refused) = Unit {0}
 After k v (Err Exhausted) = Unit {0}
 
 -- and of the premises, too
-abbrev pub Both : Bits → (ℕ → Bool) → List (List ℕ) → Result (Unit {0}) Stop → Type 0
+abbrev pub Both : Knowledge → (ℕ → Bool) → List (List ℕ) → Result (Unit {0}) Stop → Type 0
 Both k v cs (Ok _) = Allows k v × All v cs
 Both k v cs (Err Conflict) = ⊥
 Both k v cs (Err Refused) = Unit {0}
@@ -39,7 +39,7 @@ abbrev pub stacked : List ℕ → Stack → List (List ℕ)
 stacked numbers starts = clauses_at numbers (take starts.len starts.room.now)
 
 -- premises so far, and what is known, grown by lemmas that were read from lists, with work that is left before and after
-pub record Grown (most : ℕ) (lists : Lists) (starts : Stack) (known : Bits) (work : ℕ) (lists' : Lists) (starts' : Stack) (known' : Bits) (work' : ℕ) (r : Result (Unit {0}) Stop) : Type 0 where
+pub record Grown (most : ℕ) (lists : Lists) (starts : Stack) (known : Knowledge) (work : ℕ) (lists' : Lists) (starts' : Stack) (known' : Knowledge) (work' : ℕ) (r : Result (Unit {0}) Stop) : Type 0 where
   -- the trail undoes it
   pub kept : Kept known known'
   -- nothing is lost: what is allowed and satisfies the premises still does, or there is no such valuation

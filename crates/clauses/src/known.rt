@@ -1,12 +1,10 @@
 // What is known of the bits: by representatives, and by what was assumed, on a trail by which that is undone.
 ghost use Rattle.std.specs.Prelude.{◌≤◌, length};
 
+use crate::bits::{Bit, UNKNOWN, resolve};
 use crate::literal::Literal;
 use crate::stack::Full;
 use crate::stop::Stop;
-
-/// In `value`, of a bit that is not known.
-pub const UNKNOWN: u64 = 2;
 
 /// What is known of the bits.
 #[derive(Drop)]
@@ -21,16 +19,8 @@ pub struct Known<'a> {
     pub ghost within: { depth ≤ length trail.now },
 }
 
-/// What is known of a position.
-#[derive(Clone, Copy, PartialEq, Eq, Debug)]
-pub enum Bit {
-    Known(bool),
-    /// Unknown, and equal to the bit at this position.
-    Open(usize),
-}
-
 impl<'a> Known<'a> {
-    ghost use Rattle.std.specs.Prelude.{◌≡◌, ℕ, ◌<◌, ◌≤◌, Bool, ◌⊎◌, List, length, take, slice_index, IsErrOf};
+    ghost use Rattle.std.specs.Prelude.{◌≡◌, ℕ, ◌<◌, ◌≤◌, Bool, ◌⊎◌, List, length, min, take, slice_index, IsErrOf};
     ghost use Rattle.clauses.specs.Clauses.{bit, Sat};
     ghost use Rattle.clauses.specs.Known.{Allows, Resolved, Kept, Undone};
     ghost use Rattle.clauses.specs.Steps.{After};
@@ -45,7 +35,7 @@ impl<'a> Known<'a> {
         ensures same_value { result.value.ghost_name ≡ value.entry.ghost_name }
         ensures same_trail { result.trail.ghost_name ≡ trail.entry.ghost_name }
         ensures room { (result.rep.now ≡ rep.now) × ((result.value.now ≡ value.old) × (result.trail.now ≡ trail.old)) }
-        ensures depth { depth ≤ length trail.old → result.depth ≡ depth }
+        ensures depth { result.depth ≡ min depth (length trail.old) }
     {
         let n = depth.min(trail.len());
         Known {
@@ -63,29 +53,11 @@ impl<'a> Known<'a> {
         &self.trail[..self.depth]
     }
 
-    #[tactic(auto, unfolding(crate::specs::Clauses::bit))]
-    fn valued(&self, q: usize) -> Option<Bit>
-        ensures { Resolved self.now q result }
-    {
-        match *self.value.get(q)? {
-            0 => Some(Bit::Known(false)),
-            1 => Some(Bit::Known(true)),
-            UNKNOWN => Some(Bit::Open(q)),
-            _ => None,
-        }
-    }
-
     /// What is known of position p, if its numbers are as they should be.
-    #[tactic(auto, unfolding(crate::specs::Clauses::bit))]
     pub fn resolve(&self, p: usize) -> Option<Bit>
-        ensures { Resolved self.now p result }
+        ensures { Resolved self.now.rep.now self.now.value.now p result }
     {
-        match self.rep.get(p) {
-            None => self.valued(p),
-            Some(0) => Some(Bit::Known(false)),
-            Some(1) => Some(Bit::Known(true)),
-            Some(s) => self.valued((*s - 2) as usize),
-        }
+        resolve(self.rep, self.value, p)
     }
 
     /// Position q, which is unknown, has the bit b from now on.

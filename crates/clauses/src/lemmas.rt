@@ -36,6 +36,10 @@ fn add_lemma(
 ) -> Result<(), Stop>
     ensures { Grown most lists.old starts.old known.old work.old.left lists.new starts.new known.new work.new.left result }
 {
+    // there is no room for one more
+    if starts.len >= starts.room.len() {
+        return Err(Stop::Refused);
+    }
     let at = lists.at;
     let Some(lemma) = lists.next() else {
         return Err(Stop::Refused);

@@ -1,10 +1,10 @@
 //! Clauses over bits in lent numbers, what is known of the bits, and the one rule by which a clause follows from others by hints.
-// Read lists (lists in lent numbers), literal, premises, stack (a stack in lent room), known (what is known of the bits: assume and undo), look (what a
+// Read lists (lists in lent numbers), literal, premises, stack (a stack in lent room), bits (what is known of a position), known (assume and undo), look (what a
 // clause says), hints (the rule), lemmas (premises added by it).
 //
 // A use: the premises stand at starts[..count]. Assume what is known, add the lemmas that stand at `at`, then show each goal by the hints that follow:
 //
-//     let mut known = Known { rep, value, trail, depth: 0 };
+//     let mut known = Known::new(rep, value, trail, 0);
 //     let mut starts = Stack::new(starts, count);
 //     let mut lists = Lists { numbers, at };
 //     let mut work = Work { left };
@@ -15,6 +15,7 @@
 //     known.undo(0);
 #![tactic(auto)]
 
+pub mod bits;
 pub mod hints;
 pub mod known;
 pub mod lemmas;

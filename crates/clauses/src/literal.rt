@@ -12,7 +12,7 @@ pub struct Literal {
 impl From<u64> for Literal {
     ghost from_gives = { λ l r. (r.position ≡ l / 2) × (bit r.negated ≡ l % 2) };
 
-    #[tactic(auto, using(crate::proofs::Bits::bit_odd))]
+    #[tactic(auto, using(crate::proofs::Signs::bit_odd))]
     fn from(l: u64) -> Literal {
         Literal {
             position: (l / 2) as usize,

@@ -2,9 +2,10 @@
 ghost use Rattle.std.specs.Prelude.{◌≡◌, ℕ, ◌/◌, ◌%◌, List, [], ◌∷◌, ◌++◌, Some};
 ghost use Rattle.clauses.specs.Clauses.{bit};
 ghost use Rattle.clauses.specs.Known.{Resolved, Looked};
-ghost use Rattle.clauses.specs.declared.known.Known.{Known as Bits};
+ghost use Rattle.clauses.specs.declared.known.Known.{Known as Knowledge};
 
-use crate::known::{Bit, Known};
+use crate::bits::Bit;
+use crate::known::Known;
 use crate::literal::Literal;
 
 #[derive(Clone, Copy, PartialEq, Eq, Debug)]
@@ -20,7 +21,7 @@ impl Look {
     // What a clause says with one more literal, of which this is known.
     #[tactic(auto, unfolding(crate::specs::Clauses::bit))]
     fn or(self, found: Bit, negated: bool) -> Look
-        ensures { (k : Bits) (ls : List ℕ) (l : ℕ) → l % 2 ≡ bit negated → Resolved k (l / 2) (Some found) → Looked k ls self → Looked k (ls ++ (l ∷ [])) result }
+        ensures { (k : Knowledge) (ls : List ℕ) (l : ℕ) → l % 2 ≡ bit negated → Resolved k.rep.now k.value.now (l / 2) (Some found) → Looked k ls self → Looked k (ls ++ (l ∷ [])) result }
     {
         match found {
             Bit::Known(b) if b == negated => self,

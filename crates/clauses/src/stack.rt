@@ -1,5 +1,5 @@
 // A stack in lent room.
-ghost use Rattle.std.specs.Prelude.{◌≡◌, ℕ, ◌+◌, ◌-◌, ◌<◌, ◌≤◌, [], ◌∷◌, ◌++◌, length, take, slice_set, slice_index, OnOk, OnErr, MatchOption};
+ghost use Rattle.std.specs.Prelude.{◌≡◌, ℕ, ◌+◌, ◌-◌, ◌<◌, ◌≤◌, [], ◌∷◌, ◌++◌, length, min, take, slice_set, slice_index, OnOk, OnErr, MatchOption};
 
 /// There is no room left.
 #[derive(Clone, Copy, PartialEq, Eq, Debug)]
@@ -18,7 +18,7 @@ impl<'a> Stack<'a> {
     pub fn new(room: &'a mut [u64], len: usize) -> Stack<'a>
         ensures same { result.room.ghost_name ≡ room.entry.ghost_name }
         ensures room { result.room.now ≡ room.old }
-        ensures len { len ≤ length room.old → result.len ≡ len }
+        ensures len { result.len ≡ min len (length room.old) }
     {
         let n = len.min(room.len());
         Stack { room, len: n }

@@ -9,7 +9,7 @@ loop-l-preserved c =
     let i = c.loop-l.l-index in
     subst (λ x. Looked c.args.known.now x c.or-says.result) (sym (take_more clause i 0 c.loop-l-test.true))
     (c.or-says.ensures c.args.known.now (take i clause) (get_or clause i 0) (sym c.from-l.ensures.1)
-    (subst (λ x. Resolved c.args.known.now x (Some c.in-Some.found)) c.from-l.ensures.0 c.in-Some.ensures)
+    (subst (λ x. Resolved c.args.known.now.rep.now c.args.known.now.value.now x (Some c.in-Some.found)) c.from-l.ensures.0 c.in-Some.ensures)
     c.loop-l.invariant)
 
 pub returns : goal.returns
