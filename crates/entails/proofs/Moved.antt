@@ -1,11 +1,11 @@
 -- Writes behind premises and goal leave what follows.
 use Rattle.std.proofs.Common.{◌≡◌, ℕ, ◌+◌, ◌<◌, ◌≤◌, Bool, List, length, get_or, take, sym, ap, ◌∙◌, subst, arith}
-use Rattle.std.proofs.lemmas.List.{get_or-take}
+use Rattle.std.proofs.lemmas.List.{get_or-take, length-take-le}
 use Rattle.clauses.specs.Clauses.{Holds, Sat, All, Follows, clause_at, premises}
-use Rattle.clauses.proofs.Parts.{length_part, get_d_part, sat_at, all_at}
 use Rattle.entails.specs.Answers.{Refuted}
 use Rattle.entails.specs.Layouts.{Front, Below, Laid}
-use Rattle.entails.proofs.Says.{all_from}
+use Rattle.entails.proofs.Parts.{length_part, get_or-part}
+use Rattle.entails.proofs.Says.{all_each, all_from}
 
 -- the same front
 pub front_take : (n : ℕ) (xs ys : List ℕ) → take n ys ≡ take n xs → Front n xs ys
@@ -25,15 +25,16 @@ sat_moved v xs ys limit s front lx ly below sat =
     let n_is : get_or ys s 0 ≡ get_or xs s 0 = front s (omega arith) in
     let lt : sat.0 < get_or xs s 0 = omega (arith, sat.1, length_part xs (s + 1) (get_or xs s 0) (omega arith)) in
     let same : get_or ys (s + 1 + sat.0) 0 ≡ get_or xs (s + 1 + sat.0) 0 = front (s + 1 + sat.0) (omega arith) in
-    sat_at v ys (s + 1) (get_or ys s 0) sat.0 (omega (arith, n_is)) (omega (arith, n_is, lt))
-    (subst (λ x. Holds v x) (get_d_part xs (s + 1) (get_or xs s 0) sat.0 lt ∙ sym same) sat.2)
+    let here : sat.0 < get_or ys s 0 = omega (arith, n_is, lt) in
+    let in_ys : sat.0 < length (clause_at ys s) = omega (arith, here, length_part ys (s + 1) (get_or ys s 0) (omega (arith, n_is))) in
+    (sat.0, in_ys, subst (λ x. Holds v x) (get_or-part xs (s + 1) (get_or xs s 0) sat.0 lt ∙ sym same ∙ sym (get_or-part ys (s + 1) (get_or ys s 0) sat.0 here)) sat.2)
 
 -- numbers xs and starts ss, before; ys and ts, after
-module _ (xs ys ss ts : List ℕ) (used count goal : ℕ) (laid : Laid xs used ss count goal) (front : Front used xs ys) (places : Front count ss ts) (long : length ys ≡ length xs) (many : length ts ≡ length ss) where
+module _ (xs ys ss ts : List ℕ) (used count goal : ℕ) (laid : Laid xs used ss count goal) (front : Front used xs ys) (places : Front count ss ts) (long : used ≤ length ys) (many : count ≤ length ts) where
   pub laid_moved : Laid ys used ts count goal
   laid_moved = record {
-    low = omega (arith, laid.low);
-    room = omega (arith, laid.room);
+    low = long;
+    room = many;
     each = λ c l. subst (λ s. Below ys used s) (sym (places c l)) (below_moved xs ys used (get_or ss c 0) front (laid.each c l));
     last = below_moved xs ys used goal front laid.last;
   }
@@ -42,13 +43,20 @@ module _ (xs ys ss ts : List ℕ) (used count goal : ℕ) (laid : Laid xs used s
   goal_stands = omega (arith, laid_moved.low, laid_moved.last)
 
   all_moved : (v : ℕ → Bool) → All v (premises xs ss count) → All v (premises ys ts count)
-  all_moved v all = all_from v ys ts count laid_moved.room (λ c l.
-      subst (λ s. Sat v (clause_at ys s)) (sym (places c l)) (sat_moved v xs ys used (get_or ss c 0) front laid.low laid_moved.low (laid.each c l) (all_at v xs ss count c laid.room l all)))
+  all_moved v all = all_from v ys (take count ts) (λ c l.
+      let lt : c < count = omega (arith, length-take-le count ts laid_moved.room) in
+      let lt' : c < length (take count ss) = omega (arith, length-take-le count ss laid.room) in
+      subst (λ s. Sat v (clause_at ys s)) (sym (get_or-take count ts c 0 lt ∙ places c lt))
+      (sat_moved v xs ys used (get_or ss c 0) front laid.low laid_moved.low (laid.each c lt)
+      (subst (λ s. Sat v (clause_at xs s)) (get_or-take count ss c 0 lt) (all_each v xs (take count ss) all c lt'))))
 
   all_unmoved : (v : ℕ → Bool) → All v (premises ys ts count) → All v (premises xs ss count)
-  all_unmoved v all = all_from v xs ss count laid.room (λ c l.
-      sat_moved v ys xs used (get_or ss c 0) (front_back used xs ys front) laid_moved.low laid.low (below_moved xs ys used (get_or ss c 0) front (laid.each c l))
-      (subst (λ s. Sat v (clause_at ys s)) (places c l) (all_at v ys ts count c laid_moved.room l all)))
+  all_unmoved v all = all_from v xs (take count ss) (λ c l.
+      let lt : c < count = omega (arith, length-take-le count ss laid.room) in
+      let lt' : c < length (take count ts) = omega (arith, length-take-le count ts laid_moved.room) in
+      subst (λ s. Sat v (clause_at xs s)) (sym (get_or-take count ss c 0 lt))
+      (sat_moved v ys xs used (get_or ss c 0) (front_back used xs ys front) laid_moved.low laid.low (below_moved xs ys used (get_or ss c 0) front (laid.each c lt))
+      (subst (λ s. Sat v (clause_at ys s)) (get_or-take count ts c 0 lt ∙ places c lt) (all_each v ys (take count ts) all c lt'))))
 
   pub follows_unmoved : Follows (premises ys ts count) (clause_at ys goal) → Follows (premises xs ss count) (clause_at xs goal)
   follows_unmoved f v all = sat_moved v ys xs used goal (front_back used xs ys front) laid_moved.low laid.low laid_moved.last (f v (all_moved v all))

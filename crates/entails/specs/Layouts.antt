@@ -1,7 +1,6 @@
 -- How premises and a goal stand in lent numbers. Assumes nothing.
 use Rattle.std.specs.Prelude.{◌≡◌, ℕ, ◌+◌, ◌/◌, ◌<◌, ◌≤◌, ◌⊎◌, List, length, slice_index}
-use Rattle.entails.specs.declared.survey.Layout.{Layout}
-use Rattle.entails.specs.declared.survey.Layout.TheVariants.{Good, Malformed, Wide, Worn}
+use Rattle.std.specs.Borrow.{MutBor}
 
 -- the first n are the same
 abbrev pub Front : ℕ → List ℕ → List ℕ → Type 0
@@ -25,16 +24,6 @@ Beyond numbers n s = (k : ℕ) × (k < slice_index numbers s) × (n ≤ slice_in
 abbrev pub SomeBeyond : List ℕ → List ℕ → ℕ → ℕ → ℕ → Type 0
 SomeBeyond numbers starts count goal n = ((c : ℕ) × (c < count) × Beyond numbers n (slice_index starts c)) ⊎ Beyond numbers n goal
 
--- what was found of one clause
-abbrev pub Scanned : List ℕ → ℕ → ℕ → ℕ → ℕ → Layout → Type 0
-Scanned numbers used s n left Good = Below numbers used s
-Scanned numbers used s n left Malformed = Below numbers used s → ⊥
-Scanned numbers used s n left Wide = Beyond numbers n s
-Scanned numbers used s n left Worn = left ≡ 0
-
--- and of all
-abbrev pub SurveyedAs : List ℕ → ℕ → List ℕ → ℕ → ℕ → ℕ → ℕ → Layout → Type 0
-SurveyedAs numbers used starts count goal n left Good = Laid numbers used starts count goal
-SurveyedAs numbers used starts count goal n left Malformed = Laid numbers used starts count goal → ⊥
-SurveyedAs numbers used starts count goal n left Wide = SomeBeyond numbers starts count goal n
-SurveyedAs numbers used starts count goal n left Worn = left ≡ 0
+-- the same lent room
+abbrev pub Same : MutBor (List ℕ) → MutBor (List ℕ) → Type 0
+Same room room' = (room'.ghost_name ≡ room.ghost_name) × (length room'.now ≡ length room.now)

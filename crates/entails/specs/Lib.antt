@@ -1,3 +1,4 @@
 pub mod Answers
-pub mod Hunts
 pub mod Layouts
+pub mod Searches
+pub mod Surveys

@@ -1,58 +1,57 @@
 // Clauses under given bits.
-ghost use Rattle.std.specs.Prelude.{◌≡◌, ℕ, ◌≤◌, true, false, length};
-ghost use Rattle.clauses.specs.Clauses.{bit, Holds, Sat, All, Stands, clause_at, premises};
+ghost use Rattle.std.specs.Prelude.{◌≡◌, ◌≤◌, ◌↔◌, IsTrue};
+ghost use Rattle.clauses.specs.Clauses.{Holds, Sat, All};
+ghost use Rattle.clauses.specs.Steps.{clauses_of};
 ghost use Rattle.entails.specs.Answers.{says, Refuted};
+ghost use Rattle.entails.specs.Layouts.{Below};
+ghost use Rattle.entails.specs.Searches.{asked, wanted};
 
-use clauses::look::cost;
+use crate::Room;
+use crate::search::Search;
+use clauses::lists::list_at;
+use clauses::literal::Literal;
+use clauses::premises::Premises;
 
 // The bit at p, where what is unknown counts as 0.
-fn bit_at(value: &[u64], p: usize) -> u64
-    ensures { result ≡ bit (says value.now p) }
+#[tactic(auto, unfolding(crate::specs::Answers::says))]
+fn bit_at(value: &[u64], p: usize) -> bool
+    ensures { result ≡ says value.now p }
 {
-    if p >= value.len() {
-        return 0;
-    }
-    if value[p] == 1 { 1 } else { 0 }
+    value.get(p).is_some_and(|b| *b == 1)
 }
 
 fn holds(value: &[u64], l: u64) -> bool
-    ensures right { result ≡ true → Holds (says value.now) l }
-    ensures wrong { result ≡ false → Holds (says value.now) l → ⊥ }
+    ensures { IsTrue result ↔ Holds (says value.now) l }
 {
-    bit_at(value, (l / 2) as usize) != l % 2
+    let l = Literal::from(l);
+    bit_at(value, l.position) != l.negated
 }
 
-fn satisfied(numbers: &[u64], value: &[u64], s: usize) -> bool
-    requires { Stands numbers.now s }
-    ensures right { result ≡ true → Sat (says value.now) (clause_at numbers.now s) }
-    ensures wrong { result ≡ false → Sat (says value.now) (clause_at numbers.now s) → ⊥ }
+fn satisfied(value: &[u64], clause: &[u64]) -> bool
+    ensures { IsTrue result ↔ Sat (says value.now) clause.now }
 {
-    let n = numbers[s] as usize;
-    for k in 0..n {
-        if holds(value, numbers[s + 1 + k]) {
-            return true;
-        }
-    }
-    false
+    clause.iter().any(|l| holds(value, *l))
 }
 
-fn all_hold(numbers: &[u64], starts: &[u64], count: usize, value: &[u64]) -> bool
-    requires { count ≤ length starts.now }
-    ensures { result ≡ true → All (says value.now) (premises numbers.now starts.now count) }
+fn all_hold(premises: &Premises, value: &[u64]) -> bool
+    ensures { IsTrue result → All (says value.now) (clauses_of premises.now) }
 {
-    for c in 0..count {
-        let s = starts[c] as usize;
-        if cost(numbers, s, u64::MAX) == 0 || !satisfied(numbers, value, s) {
-            return false;
+    for s in premises.starts {
+        match premises.clause(*s as usize) {
+            Some(clause) if satisfied(value, clause) => {}
+            _ => return false,
         }
     }
     true
 }
 
 /// Whether the bits satisfy the premises and not the goal. Not charged: `survey` was, for the same way.
-pub fn refutes(numbers: &[u64], starts: &[u64], count: usize, goal: usize, value: &[u64]) -> bool
-    requires { (count ≤ length starts.now) × (Stands numbers.now goal) }
-    ensures { result ≡ true → Refuted (premises numbers.now starts.now count) (clause_at numbers.now goal) (says value.now) }
+pub fn refutes(search: &Search, room: &Room) -> bool
+    requires stands { Below search.now.numbers.now search.now.used search.now.goal }
+    requires given { search.now.given ≤ search.now.count }
+    ensures { IsTrue result → Refuted (asked search.now) (wanted search.now) (says room.now.value.now) }
 {
-    all_hold(numbers, starts, count, value) && !satisfied(numbers, value, goal)
+    let premises = search.premises();
+    let goal = list_at(premises.numbers, search.goal).unwrap();
+    all_hold(&premises, room.value) && !satisfied(room.value, goal)
 }

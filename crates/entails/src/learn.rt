@@ -1,173 +1,128 @@
 // What a conflict rests on, written as a lemma with its hints.
-ghost use Rattle.std.specs.Prelude.{◌≡◌, ℕ, ◌≤◌, length};
-ghost use Rattle.clauses.specs.Clauses.{Stands};
-ghost use Rattle.entails.specs.Layouts.{Front};
+ghost use Rattle.std.specs.Prelude.{◌≡◌, ℕ, ◌≤◌, length, OnErr, IfErr};
+ghost use Rattle.entails.specs.Searches.{Learned, ShortOf};
 
-use crate::propagate::{DENIED, IDLE, TRIED};
-use clauses::look::cost;
-
-#[derive(Clone, Copy)]
-pub struct Traced {
-    /// The conflict rests on a bit that was tried.
-    pub tried: bool,
-    pub left: u64,
-}
+use crate::Lack;
+use crate::propagate::Tries;
+use crate::reason::Reason;
+use crate::search::Search;
+use budget::{Exhausted, Work};
+use clauses::known::{Known, UNKNOWN};
+use clauses::literal::Literal;
+use clauses::premises::Premises;
+use clauses::stack::Full;
 
 // A bit that the conflict rests on is marked by 4 more: all bits are forgotten after it.
 const MARK: u64 = 4;
 
-fn mark(numbers: &[u64], value: &mut [u64], s: usize)
-    requires { Stands numbers.now s }
+// Marks the bits of premise c, if it is there.
+fn mark(premises: &Premises, known: &mut Known, c: usize, work: &mut Work) -> Result<(), Exhausted>
+    ensures less { work.new.left ≤ work.old.left }
+    ensures worn { OnErr result (work.new.left ≡ 0) }
 {
-    let n = numbers[s] as usize;
-    for k in 0..n {
-        let p = (numbers[s + 1 + k] / 2) as usize;
-        if p < value.len() && value[p] < 2 {
-            value[p] += MARK;
+    let Some(clause) = premises.get(c) else {
+        return Ok(());
+    };
+    work.spend(clause.len() as u64 + 1)?;
+    for l in clause {
+        let p = Literal::from(*l).position;
+        if p < known.value.len() && known.value[p] < UNKNOWN {
+            known.value[p] += MARK;
         }
     }
+    Ok(())
 }
 
-// Marks the bits of a premise; the work that is left.
-fn mark_premise(
-    numbers: &[u64],
-    starts: &[u64],
-    value: &mut [u64],
-    premise: usize,
-    work: u64,
-) -> u64
-    ensures { result ≤ work }
-{
-    if premise >= starts.len() {
-        return work;
+impl Tries<'_> {
+    // Why the bit at this depth of the trail is there, if the conflict rests on it.
+    fn rests_on(&self, d: usize) -> Option<Reason> {
+        let p = *self.known.assumed().get(d)?;
+        let why = *self.reason.as_slice().get(d)?;
+        if *self.known.value.get(p as usize)? < MARK {
+            return None;
+        }
+        Some(Reason::from(why))
     }
-    let s = starts[premise] as usize;
-    let price = cost(numbers, s, u64::MAX);
-    if price == 0 || price > work {
-        return 0;
-    }
-    mark(numbers, value, s);
-    work - price
-}
 
-/// Goes down the trail from a premise that is false: what it does not rest on is idle.
-pub fn trace(
-    numbers: &[u64],
-    starts: &[u64],
-    value: &mut [u64],
-    trail: &[u64],
-    reason: &mut [u64],
-    depth: usize,
-    premise: usize,
-    work: u64,
-) -> Traced
-    ensures { result.left ≤ work }
-{
-    let mut left = mark_premise(numbers, starts, value, premise, work);
-    let mut tried = false;
-    let mut d = depth;
-    while d > 0 {
-        d -= 1;
-        if d < trail.len() && d < reason.len() {
-            let p = trail[d] as usize;
-            if p >= value.len() || value[p] < MARK {
-                reason[d] = IDLE;
-            } else if reason[d] == TRIED {
-                tried = true;
-            } else if reason[d] < IDLE {
-                left = mark_premise(numbers, starts, value, reason[d] as usize, left);
+    // Goes down the trail from a premise that is false: whether the conflict rests on a bit that was tried. What it does not rest on is idle.
+    fn trace(
+        &mut self,
+        premises: &Premises,
+        premise: usize,
+        work: &mut Work,
+    ) -> Result<bool, Exhausted>
+        ensures less { work.new.left ≤ work.old.left }
+        ensures worn { OnErr result (work.new.left ≡ 0) }
+    {
+        mark(premises, &mut self.known, premise, work)?;
+        let mut tried = false;
+        for d in (0..self.reason.len).rev() {
+            match self.rests_on(d) {
+                None => self.reason.room[d] = Reason::Idle.into(),
+                Some(Reason::Tried) => tried = true,
+                Some(Reason::Forced(c)) => mark(premises, &mut self.known, c, work)?,
+                Some(Reason::Denied | Reason::Idle) => {}
             }
         }
+        Ok(tried)
     }
-    Traced { tried, left }
+
+    // Of the bits that were tried and denied, one is not so.
+    fn write_clause(&self, search: &mut Search) -> Result<(), Full>
+        ensures learned { Learned search.old search.new }
+        ensures full { OnErr result (search.new.used ≡ length search.new.numbers.now) }
+        ensures lemmas { search.new.count ≡ search.old.count }
+    {
+        let value = &*self.known.value;
+        let trail = self.known.assumed();
+        let reasons = trail.iter().zip(self.reason.as_slice());
+        let literals = reasons.filter_map(|(p, why)| match Reason::from(*why) {
+            Reason::Denied | Reason::Tried => Some(*p << 1 | *value.get(*p as usize)? % 2),
+            _ => None,
+        });
+        search.push_list(literals)
+    }
+
+    // The premises that forced what is on the trail, and the one that is false, as hints.
+    fn write_hints(&self, search: &mut Search, premise: usize) -> Result<(), Full>
+        ensures learned { Learned search.old search.new }
+        ensures full { OnErr result (search.new.used ≡ length search.new.numbers.now) }
+        ensures lemmas { search.new.count ≡ search.old.count }
+    {
+        let reasons = self.reason.as_slice();
+        let forced = reasons.iter().filter_map(|why| match Reason::from(*why) {
+            Reason::Forced(c) => Some(c as u64),
+            _ => None,
+        });
+        search.push_list(forced.chain(Some(premise as u64)))
+    }
 }
 
-/// Writes a number if there is room; the index after it.
-pub fn put(numbers: &mut [u64], at: usize, x: u64) -> usize
-    ensures front { Front at numbers.old numbers.new }
-    ensures ahead { at ≤ result }
-    ensures inside { at ≤ length numbers.old → result ≤ length numbers.old }
-{
-    if at < numbers.len() {
-        numbers[at] = x;
-        at + 1
-    } else {
-        at
-    }
-}
-
-// How many numbers were written behind `at`, written there.
-fn put_length(numbers: &mut [u64], at: usize, next: usize)
-    ensures { Front at numbers.old numbers.new }
-{
-    if next > at {
-        let _ = put(numbers, at, (next - at - 1) as u64);
-    }
-}
-
-// Of the bits that were tried and denied, one is not so.
-fn write_clause(
-    numbers: &mut [u64],
-    at: usize,
-    value: &[u64],
-    trail: &[u64],
-    reason: &[u64],
-    depth: usize,
-) -> usize
-    ensures front { Front at numbers.old numbers.new }
-    ensures ahead { at ≤ result }
-    ensures inside { at ≤ length numbers.old → result ≤ length numbers.old }
-{
-    let mut next = put(numbers, at, 0);
-    for x in 0..depth {
-        if x < reason.len() && x < trail.len() && reason[x] >= TRIED {
-            let p = trail[x];
-            if p < value.len() as u64 && p < 1 << 60 && value[p as usize] >= MARK {
-                next = put(numbers, next, 2 * p + value[p as usize] % 2);
-            }
-        }
-    }
-    put_length(numbers, at, next);
-    next
-}
-
-/// Writes the premises that forced what is on the trail, and the one that is false, as hints.
-pub fn write_hints(
-    numbers: &mut [u64],
-    at: usize,
-    reason: &[u64],
-    depth: usize,
+/// Writes the lemma of a conflict, or, if it rests on nothing that was tried, the goal's hints: whether it was a lemma.
+pub fn learn(
+    search: &mut Search,
+    tries: &mut Tries,
     premise: usize,
-) -> usize
-    ensures front { Front at numbers.old numbers.new }
-    ensures ahead { at ≤ result }
-    ensures inside { at ≤ length numbers.old → result ≤ length numbers.old }
+    work: &mut Work,
+) -> Result<bool, Lack>
+    ensures learned { Learned search.old search.new }
+    ensures less { work.new.left ≤ work.old.left }
+    ensures lack { IfErr result (λ lack. ShortOf search.new work.new.left lack) }
 {
-    let mut next = put(numbers, at, 0);
-    for x in 0..depth {
-        if x < reason.len() && reason[x] < IDLE {
-            next = put(numbers, next, reason[x]);
-        }
+    if !tries.trace(&search.all(), premise, work)? {
+        tries
+            .write_hints(search, premise)
+            .map_err(|_| Lack::Numbers)?;
+        return Ok(false);
     }
-    next = put(numbers, next, premise as u64);
-    put_length(numbers, at, next);
-    next
-}
-
-/// Writes the lemma and its hints.
-pub fn write_lemma(
-    numbers: &mut [u64],
-    at: usize,
-    value: &[u64],
-    trail: &[u64],
-    reason: &[u64],
-    depth: usize,
-    premise: usize,
-) -> usize
-    ensures front { Front at numbers.old numbers.new }
-    ensures ahead { at ≤ result }
-    ensures inside { at ≤ length numbers.old → result ≤ length numbers.old }
-{
-    let hints = write_clause(numbers, at, value, trail, reason, depth);
-    write_hints(numbers, hints, reason, depth, premise)
+    if search.count == search.starts.len() {
+        return Err(Lack::Starts);
+    }
+    let at = search.used;
+    tries.write_clause(search).map_err(|_| Lack::Numbers)?;
+    tries
+        .write_hints(search, premise)
+        .map_err(|_| Lack::Numbers)?;
+    search.add(at);
+    Ok(true)
 }

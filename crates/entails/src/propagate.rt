@@ -1,276 +1,140 @@
 // Bits that are forced, and bits that are tried, until a clause is false or nothing is open.
-ghost use Rattle.std.specs.Prelude.{◌≡◌, ℕ, ◌≤◌, length};
+ghost use Rattle.std.specs.Prelude.{◌≡◌, ℕ, ◌<◌, ◌≤◌, length};
 ghost use Rattle.clauses.specs.Clauses.{Stands};
 
-use clauses::hints::{Run, deny, hint};
-use clauses::look::cost;
-use clauses::trail::{End, assume};
+use crate::reason::Reason;
+use budget::{Exhausted, Work};
+use clauses::hints::hint;
+use clauses::known::{Bit, Known, UNKNOWN};
+use clauses::lists::list_at;
+use clauses::literal::Literal;
+use clauses::premises::Premises;
+use clauses::stack::{Full, Stack};
+use clauses::stop::Stop;
 
-// Why a bit stands on the trail: the number of the premise that forced it, or one of these.
-pub const DENIED: u64 = u64::MAX;
-
-pub const TRIED: u64 = u64::MAX - 1;
-
-pub const IDLE: u64 = u64::MAX - 2;
-
-#[derive(Clone, Copy)]
-pub enum Met {
-    /// The premise is false, at this depth of the trail.
-    Clash { depth: usize, premise: usize },
-    /// No premise is open.
-    Model,
-    Worn,
+/// What is known while bits are tried, and why each bit on the trail is.
+#[derive(Drop)]
+pub struct Tries<'a> {
+    pub known: Known<'a>,
+    pub reason: Stack<'a>,
 }
 
-#[derive(Clone, Copy)]
-pub struct Attempted {
-    pub met: Met,
-    pub left: u64,
+// All bits are unknown from now on.
+fn forget(known: &mut Known) {
+    known.value.fill(UNKNOWN);
+    known.depth = 0;
 }
 
-#[derive(Clone, Copy)]
-struct Passed {
-    run: Run,
-    premise: usize,
-}
-
-fn note(reason: &mut [u64], depth: usize, why: u64) {
-    if depth < reason.len() {
-        reason[depth] = why;
-    }
-}
-
-// Goes once over the premises.
-fn pass(
-    numbers: &[u64],
-    starts: &[u64],
-    have: usize,
-    value: &mut [u64],
-    trail: &mut [u64],
-    reason: &mut [u64],
-    depth: usize,
-    work: u64,
-) -> Passed
-    requires { have ≤ length starts.now }
-    ensures { result.run.left ≤ work }
-{
-    let mut d = depth;
-    let mut left = work;
-    for c in 0..have {
-        let run = hint(
-            numbers,
-            starts,
-            have,
-            &[],
+impl<'a> Tries<'a> {
+    pub fn new(value: &'a mut [u64], trail: &'a mut [u64], reason: &'a mut [u64]) -> Tries<'a> {
+        let known = Known {
+            rep: &[],
             value,
             trail,
-            d,
-            c,
-            u64::MAX,
-            left,
-        );
-        if run.depth > d {
-            note(reason, d, c as u64);
-        }
-        d = run.depth;
-        left = run.left;
-        match run.end {
-            End::More => {}
-            _ => return Passed { run, premise: c },
+            depth: 0,
+        };
+        Tries {
+            known,
+            reason: Stack::new(reason, 0),
         }
     }
-    Passed {
-        run: Run {
-            depth: d,
-            end: End::More,
-            left,
-        },
-        premise: have,
-    }
-}
 
-// A literal of the clause at s that is unknown, if none holds.
-fn open_literal(numbers: &[u64], value: &[u64], s: usize) -> Option<u64>
-    requires { Stands numbers.now s }
-{
-    let n = numbers[s] as usize;
-    let mut open = None;
-    for k in 0..n {
-        let l = numbers[s + 1 + k];
-        let p = (l / 2) as usize;
-        if p >= value.len() {
-            return None;
+    // What is new on the trail stands there for this reason.
+    fn note(&mut self, why: Reason) -> Result<(), Full> {
+        for _ in self.reason.len..self.known.depth {
+            self.reason.push(why.into())?;
         }
-        if value[p] == 2 {
-            open = Some(l);
-        } else if value[p] != l % 2 {
-            return None;
+        Ok(())
+    }
+
+    // Goes once over the premises: the one that is false, if one is.
+    fn pass(&mut self, premises: &Premises, work: &mut Work) -> Result<Option<usize>, Stop>
+        requires { 0 < premises.now.most }
+        ensures { work.new.left ≤ work.old.left }
+    {
+        // By number: the reason names the premise.
+        for c in 0..premises.starts.len() {
+            match hint(premises, &mut self.known, c, work) {
+                Err(Stop::Conflict) => return Ok(Some(c)),
+                end => end?,
+            }
+            self.note(Reason::Forced(c))?;
         }
+        Ok(None)
     }
-    open
-}
 
-// The literal is true from now on, on trial.
-fn try_literal(
-    value: &mut [u64],
-    trail: &mut [u64],
-    reason: &mut [u64],
-    depth: usize,
-    l: u64,
-    work: u64,
-) -> Run
-    ensures { result.left ≤ work }
-{
-    note(reason, depth, TRIED);
-    let step = assume(&[], value, trail, depth, (l / 2) as usize, 1 - l % 2);
-    Run {
-        depth: step.depth,
-        end: if step.depth > depth {
-            End::More
-        } else {
-            End::Refused
-        },
-        left: work,
+    // A literal of the clause that is unknown, if none holds.
+    fn open_literal(&self, clause: &[u64]) -> Option<Literal> {
+        let mut open = None;
+        for l in clause {
+            let l = Literal::from(*l);
+            match self.known.resolve(l.position)? {
+                Bit::Open(_) => open = Some(l),
+                Bit::Known(b) if b == l.negated => {}
+                Bit::Known(_) => return None,
+            }
+        }
+        open
     }
-}
 
-// Tries a literal of the first premise that is open: done if none is.
-fn try_open(
-    numbers: &[u64],
-    starts: &[u64],
-    have: usize,
-    value: &mut [u64],
-    trail: &mut [u64],
-    reason: &mut [u64],
-    depth: usize,
-    work: u64,
-) -> Run
-    requires { have ≤ length starts.now }
-    ensures { result.left ≤ work }
-{
-    let mut left = work;
-    for c in 0..have {
-        let s = starts[c] as usize;
-        let price = cost(numbers, s, u64::MAX);
-        if price > left {
-            return Run {
-                depth,
-                end: End::Exhausted,
-                left: 0,
+    // A literal of the first premise that is open: none if none is.
+    fn open(&self, premises: &Premises, work: &mut Work) -> Result<Option<Literal>, Exhausted>
+        ensures { work.new.left ≤ work.old.left }
+    {
+        for s in premises.starts {
+            let Some(clause) = premises.clause(*s as usize) else {
+                continue;
             };
+            work.spend(clause.len() as u64 + 1)?;
+            let open = self.open_literal(clause);
+            if open.is_some() {
+                return Ok(open);
+            }
         }
-        left -= price;
-        if price > 0 {
-            if let Some(l) = open_literal(numbers, value, s) {
-                return try_literal(value, trail, reason, depth, l, left);
+        Ok(None)
+    }
+
+    // From what is known on: the premise that is false, or none if no premise is open.
+    fn go_on(&mut self, premises: &Premises, work: &mut Work) -> Result<Option<usize>, Stop>
+        requires { 0 < premises.now.most }
+        ensures { work.new.left ≤ work.old.left }
+    {
+        loop {
+            work.spend(1)?;
+            let depth = self.known.depth;
+            let clash = self.pass(premises, work)?;
+            if clash.is_some() {
+                return Ok(clash);
+            }
+            if self.known.depth == depth {
+                let Some(l) = self.open(premises, work)? else {
+                    return Ok(None);
+                };
+                self.known.assume(l.position, !l.negated)?;
+                self.note(Reason::Tried)?;
             }
         }
     }
-    Run {
-        depth,
-        end: End::Done,
-        left,
-    }
-}
 
-// From what is known at this depth on.
-fn go_on(
-    numbers: &[u64],
-    starts: &[u64],
-    have: usize,
-    value: &mut [u64],
-    trail: &mut [u64],
-    reason: &mut [u64],
-    depth: usize,
-    work: u64,
-) -> Attempted
-    requires { have ≤ length starts.now }
-    ensures { result.left ≤ work }
-{
-    let mut d = depth;
-    let mut left = work;
-    while left > 0 {
-        let passed = pass(numbers, starts, have, value, trail, reason, d, left - 1);
-        left = passed.run.left;
-        match passed.run.end {
-            End::More => {}
-            End::Done => return Attempted {
-                met: Met::Clash {
-                    depth: passed.run.depth,
-                    premise: passed.premise,
-                },
-                left,
-            },
-            _ => return Attempted {
-                met: Met::Worn,
-                left,
-            },
+    /// Assumes that the goal is false, and goes on from there: the premise that is false then, or none if no premise is open.
+    pub fn attempt(
+        &mut self,
+        premises: &Premises,
+        goal: usize,
+        work: &mut Work,
+    ) -> Result<Option<usize>, Stop>
+        requires { (Stands premises.now.numbers.now goal) × (0 < premises.now.most) }
+        ensures { work.new.left ≤ work.old.left }
+    {
+        forget(&mut self.known);
+        self.reason.len = 0;
+        let denied = self.known.deny(list_at(premises.numbers, goal).unwrap());
+        self.note(Reason::Denied)?;
+        match denied {
+            // The goal holds of all bits. No premise is needed, and one that is not there has no effect as a hint.
+            Err(Stop::Conflict) => Ok(Some(premises.starts.len())),
+            Err(stop) => Err(stop),
+            Ok(()) => self.go_on(premises, work),
         }
-        if passed.run.depth > d {
-            d = passed.run.depth;
-        } else {
-            let run = try_open(numbers, starts, have, value, trail, reason, d, left);
-            left = run.left;
-            d = run.depth;
-            match run.end {
-                End::More => {}
-                End::Done => return Attempted {
-                    met: Met::Model,
-                    left,
-                },
-                _ => return Attempted {
-                    met: Met::Worn,
-                    left,
-                },
-            }
-        }
-    }
-    Attempted {
-        met: Met::Worn,
-        left,
-    }
-}
-
-/// Assumes that the goal is false, and goes on from there. All bits are unknown before.
-pub fn attempt(
-    numbers: &[u64],
-    starts: &[u64],
-    have: usize,
-    goal: usize,
-    value: &mut [u64],
-    trail: &mut [u64],
-    reason: &mut [u64],
-    work: u64,
-) -> Attempted
-    requires { (have ≤ length starts.now) × (Stands numbers.now goal) }
-    ensures { result.left ≤ work }
-{
-    let denied = deny(numbers, &[], value, trail, 0, goal);
-    for x in 0..denied.depth {
-        note(reason, x, DENIED);
-    }
-    match denied.end {
-        End::More => go_on(
-            numbers,
-            starts,
-            have,
-            value,
-            trail,
-            reason,
-            denied.depth,
-            work,
-        ),
-        // The goal holds of all bits. No premise is needed, and one that is not there has no effect as a hint.
-        End::Done => Attempted {
-            met: Met::Clash {
-                depth: 0,
-                premise: have,
-            },
-            left: work,
-        },
-        _ => Attempted {
-            met: Met::Worn,
-            left: work,
-        },
     }
 }

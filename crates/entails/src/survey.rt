@@ -1,11 +1,16 @@
 // Whether premises and goal stand below a limit, and are of positions that there are.
-ghost use Rattle.std.specs.Prelude.{◌≡◌, ℕ, ◌≤◌, true, false, length};
-ghost use Rattle.clauses.specs.Clauses.{Stands};
-ghost use Rattle.entails.specs.Layouts.{Beyond, Scanned, SurveyedAs};
+ghost use Rattle.std.specs.Prelude.{◌≡◌, ℕ, ◌≤◌, length};
+ghost use Rattle.entails.specs.Surveys.{Scanned, Surveyed};
+ghost use Rattle.entails.specs.declared.survey.Unfit.TheVariants.{Worn};
 
-#[derive(Clone, Copy)]
-pub enum Layout {
-    Good,
+use crate::Question;
+use budget::{Exhausted, Work};
+use clauses::lists::list_at;
+use clauses::literal::Literal;
+
+/// Why a question is not looked into.
+#[derive(Clone, Copy, PartialEq, Eq, Debug)]
+pub enum Unfit {
     Malformed,
     /// Of more positions than there are.
     Wide,
@@ -13,83 +18,44 @@ pub enum Layout {
     Worn,
 }
 
-#[derive(Clone, Copy)]
-pub struct Surveyed {
-    pub layout: Layout,
-    pub left: u64,
-}
+impl From<Exhausted> for Unfit {
+    ghost from_gives = { λ _ e. e ≡ Worn };
 
-// Whether all literals of the clause at s are of the first positions.
-fn covered(numbers: &[u64], s: usize, positions: usize) -> bool
-    requires { Stands numbers.now s }
-    ensures { result ≡ false → Beyond numbers.now positions s }
-{
-    let n = numbers[s] as usize;
-    for k in 0..n {
-        if numbers[s + 1 + k] / 2 >= positions as u64 {
-            return false;
-        }
+    fn from(_: Exhausted) -> Unfit {
+        Unfit::Worn
     }
-    true
 }
 
 // Looks over the clause at s.
-fn scan(numbers: &[u64], used: usize, s: usize, positions: usize, work: u64) -> Surveyed
-    requires { used ≤ length numbers.now }
-    ensures layout { Scanned numbers.now used s positions result.left result.layout }
-    ensures less { result.left ≤ work }
+fn scan(numbers: &[u64], s: usize, positions: usize, work: &mut Work) -> Result<(), Unfit>
+    ensures layout { Scanned numbers.now s positions work.new.left result }
+    ensures less { work.new.left ≤ work.old.left }
 {
-    if s >= used || numbers[s] >= (used - s) as u64 {
-        return Surveyed {
-            layout: Layout::Malformed,
-            left: work,
-        };
-    }
-    let price = numbers[s] + 1;
-    if price > work {
-        return Surveyed {
-            layout: Layout::Worn,
-            left: 0,
-        };
-    }
-    let layout = if covered(numbers, s, positions) {
-        Layout::Good
-    } else {
-        Layout::Wide
+    let Some(clause) = list_at(numbers, s) else {
+        return Err(Unfit::Malformed);
     };
-    Surveyed {
-        layout,
-        left: work - price,
+    work.spend(clause.len() as u64 + 1)?;
+    for l in clause {
+        if Literal::from(*l).position >= positions {
+            return Err(Unfit::Wide);
+        }
     }
+    Ok(())
 }
 
 /// Looks over premises and goal.
-pub fn survey(
-    numbers: &[u64],
-    used: usize,
-    starts: &[u64],
-    count: usize,
-    goal: usize,
-    positions: usize,
-    work: u64,
-) -> Surveyed
-    ensures layout { SurveyedAs numbers.now used starts.now count goal positions result.left result.layout }
-    ensures less { result.left ≤ work }
+pub fn survey(question: &Question, positions: usize, work: &mut Work) -> Result<(), Unfit>
+    ensures layout { Surveyed question.now positions work.new.left result }
+    ensures less { work.new.left ≤ work.old.left }
 {
-    if count > starts.len() || used > numbers.len() {
-        return Surveyed {
-            layout: Layout::Malformed,
-            left: work,
-        };
+    let Some(numbers) = question.numbers.get(..question.used) else {
+        return Err(Unfit::Malformed);
+    };
+    let Some(starts) = question.starts.get(..question.count) else {
+        return Err(Unfit::Malformed);
+    };
+    for s in starts {
+        scan(numbers, *s as usize, positions, work)?;
     }
-    let mut left = work;
-    for c in 0..count {
-        let one = scan(numbers, used, starts[c] as usize, positions, left);
-        left = one.left;
-        match one.layout {
-            Layout::Good => {}
-            _ => return one,
-        }
-    }
-    scan(numbers, used, goal, positions, left)
+    scan(numbers, question.goal, positions, work)
 }

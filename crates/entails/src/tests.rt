@@ -1,23 +1,9 @@
 // Clauses and goals, with the outcome of each.
-use crate::{Answer, Lack, Outcome, follows};
-
-fn name(outcome: Outcome) -> &'static str {
-    match outcome {
-        Outcome::Yes => "yes",
-        Outcome::No => "no",
-        Outcome::Exhausted(Lack::Work) => "no work",
-        Outcome::Exhausted(Lack::Numbers) => "no numbers",
-        Outcome::Exhausted(Lack::Starts) => "no starts",
-        Outcome::Exhausted(_) => "no bits",
-        Outcome::Malformed => "malformed",
-    }
-}
+use crate::{Answer, Lack, Outcome, Question, Room, follows};
 
 fn fill(numbers: &mut [u64], from: &[u64]) {
-    for (i, x) in from.iter().enumerate() {
-        if i < numbers.len() {
-            numbers[i] = *x;
-        }
+    for (to, x) in numbers.iter_mut().zip(from) {
+        *to = *x;
     }
 }
 
@@ -29,17 +15,19 @@ fn run(clauses: &[u64], starts: &[u64], goal: usize, work: u64, value: &mut [u64
     let mut reason = [0u64; 6];
     fill(&mut numbers, clauses);
     fill(&mut begins, starts);
-    follows(
-        &mut numbers,
-        clauses.len(),
-        &mut begins,
-        starts.len(),
+    let mut question = Question {
+        numbers: &mut numbers,
+        used: clauses.len(),
+        starts: &mut begins,
+        count: starts.len(),
         goal,
+    };
+    let mut room = Room {
         value,
-        &mut trail,
-        &mut reason,
-        work,
-    )
+        trail: &mut trail,
+        reason: &mut reason,
+    };
+    follows(&mut question, &mut room, work)
 }
 
 // Bits 0 and 1: one holds, but not both, and not neither.
@@ -51,23 +39,30 @@ const PIGEONS: [u64; 28] = [
 
 #[test]
 fn outcomes(rt: HostRuntime) {
-    let rows: [(&str, &[u64], &[u64], usize, u64, &str); 8] = [
+    let rows: [(&str, &[u64], &[u64], usize, u64, Outcome); 8] = [
         (
             "a contradiction that needs a lemma",
             &ALL_FOUR,
             &[0, 3, 6, 9],
             12,
             1000,
-            "yes",
+            Outcome::Yes,
         ),
-        ("three of the four", &ALL_FOUR, &[0, 3, 6], 12, 1000, "no"),
+        (
+            "three of the four",
+            &ALL_FOUR,
+            &[0, 3, 6],
+            12,
+            1000,
+            Outcome::No,
+        ),
         (
             "pigeons",
             &PIGEONS,
             &[0, 3, 6, 9, 12, 15, 18, 21, 24],
             27,
             1000,
-            "yes",
+            Outcome::Yes,
         ),
         (
             "pigeons, one apart less",
@@ -75,7 +70,7 @@ fn outcomes(rt: HostRuntime) {
             &[0, 3, 6, 9, 12, 15, 18, 21],
             27,
             1000,
-            "no",
+            Outcome::No,
         ),
         (
             "pigeons, with little work",
@@ -83,22 +78,36 @@ fn outcomes(rt: HostRuntime) {
             &[0, 3, 6, 9, 12, 15, 18, 21, 24],
             27,
             60,
-            "no work",
+            Outcome::Exhausted(Lack::Work),
         ),
-        ("a bit or its negation", &[2, 0, 1], &[], 0, 1000, "yes"),
+        (
+            "a bit or its negation",
+            &[2, 0, 1],
+            &[],
+            0,
+            1000,
+            Outcome::Yes,
+        ),
         (
             "a start beyond the numbers",
             &ALL_FOUR,
             &[0, 13],
             12,
             1000,
-            "malformed",
+            Outcome::Malformed,
         ),
-        ("a seventh bit", &[1, 12], &[], 0, 1000, "no bits"),
+        (
+            "a seventh bit",
+            &[1, 12],
+            &[],
+            0,
+            1000,
+            Outcome::Exhausted(Lack::Value),
+        ),
     ];
     for (what, clauses, starts, goal, work, expected) in rows {
         let answer = run(clauses, starts, goal, work, &mut [2; 6]);
-        assert_eq!(rt; name(answer.outcome), expected, "{}", what);
+        assert_eq!(rt; answer.outcome, expected, "{}", what);
     }
 }
 
@@ -107,7 +116,7 @@ fn bits_that_refute(rt: HostRuntime) {
     let mut value = [2; 6];
     // 0 or 1, and 1 if 0: does 0 follow?
     let answer = run(&[2, 0, 2, 2, 1, 2, 1, 0], &[0, 3], 6, 1000, &mut value);
-    assert_eq!(rt; name(answer.outcome), "no");
+    assert_eq!(rt; answer.outcome, Outcome::No);
     assert_eq!(rt; value[0], 0);
     assert_eq!(rt; value[1], 1);
 }

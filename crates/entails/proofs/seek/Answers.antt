@@ -1,34 +1,35 @@
-use Rattle.std.proofs.Common.{rules}
+use Rattle.std.proofs.Common.{sym, ◌∙◌}
+use Rattle.std.proofs.lemmas.Result.{err_from_is_err_and}
 use Rattle.entails.specs.Answers.{says}
-use Rattle.entails.proofs.Moved.{follows_unmoved, refuted_unmoved, front_more}
+use Rattle.entails.proofs.Sought.{follows_asked, learned_checked, refuted_asked}
 use Rattle.entails.proofs.seek.Goals as goal
+use Rattle.entails.proofs.seek.Goals.{in-Shown, in-Model}
 
-pub returns-then-checked : goal.returns-then-checked
-returns-then-checked c =
-    let h = c.hunt-hunted in
-    record {
-      right = follows_unmoved c.args.numbers.now h.new.numbers c.args.starts.now h.new.starts c.args.used c.args.count c.args.goal c.requires.0 h.ensures.front h.ensures.places h.auto.numbers h.auto.starts
-          (c.confirm-checked.ensures.sound c.if-checked.true);
-      front = h.ensures.front;
-      places = front_more c.args.count c.args.starts.now h.new.starts c.confirm-checked.new.starts h.ensures.places c.confirm-checked.ensures.places;
-      ahead = h.ensures.ahead;
-      inside = search rules;
-      grows = h.ensures.grows;
-      room = search rules;
-      less = search rules;
-    }
+pub returns-in_err-enough-clause-right : goal.returns-in_err-enough-clause-right
+returns-in_err-enough-clause-right c =
+    let s = c.args.search.now in
+    let e = err_from_is_err_and c.from_residual.result c.from_residual.ensures.1 in
+    rw (e.1, e.2) (c.in_err-enough.ensures.lack s.count c.args.work.now.left)
 
-pub returns-then-refutes : goal.returns-then-refutes
-returns-then-refutes c =
-    let h = c.hunt-hunted in
-    record {
-      right = refuted_unmoved c.args.numbers.now h.new.numbers c.args.starts.now h.new.starts c.args.used c.args.count c.args.goal c.requires.0 h.ensures.front h.ensures.places h.auto.numbers h.auto.starts
-          (says h.new.value) (c.refutes.ensures c.if-refutes.true);
-      front = h.ensures.front;
-      places = h.ensures.places;
-      ahead = h.ensures.ahead;
-      inside = search rules;
-      grows = h.ensures.grows;
-      room = search rules;
-      less = h.ensures.less;
-    }
+pub returns-then-not-believed-clause-learned : goal.returns-then-not-believed-clause-learned
+returns-then-not-believed-clause-learned c =
+    elim c.match-found.branch [
+      | in-Shown w ↦ rw w.search-is (learned_checked c.args.search.now c.hunt.new.search c.requires.begins.1 c.hunt.ensures.learned w.confirm-believed.new.search w.confirm-believed.ensures.checked)
+      | in-Model w ↦ rw w.search-is c.hunt.ensures.learned
+    ]
+
+pub returns-clause-learned : goal.returns-clause-learned
+returns-clause-learned c =
+    elim c.match-found.branch [
+      | in-Shown w ↦ rw w.search-is (learned_checked c.args.search.now c.hunt.new.search c.requires.begins.1 c.hunt.ensures.learned w.confirm-believed.new.search w.confirm-believed.ensures.checked)
+      | in-Model w ↦ rw w.search-is c.hunt.ensures.learned
+    ]
+
+pub returns-clause-right : goal.returns-clause-right
+returns-clause-right c =
+    elim c.match-found.branch [
+      | in-Shown w ↦ rw w.in-Shown.is (follows_asked c.args.search.now c.hunt.new.search c.requires.begins.1 c.hunt.ensures.learned c.requires.laid
+          (w.confirm-believed.ensures.sound (sym w.believed-is ∙ c.if-not-believed.false)))
+      | in-Model w ↦ rw (w.in-Model.is, w.room-is) (refuted_asked c.args.search.now c.hunt.new.search c.requires.begins.1 c.hunt.ensures.learned c.requires.laid
+          (says c.hunt.new.value) (w.refutes-believed.ensures (sym w.believed-is ∙ c.if-not-believed.false)))
+    ]

@@ -1,0 +1,95 @@
+// A question while an answer is looked for: lemmas are written behind what stands.
+ghost use Rattle.std.specs.Prelude.{◌≡◌, ℕ, ◌+◌, ◌<◌, ◌≤◌, length, take, OnOk, OnErr};
+ghost use Rattle.std.specs.Iterator.{IsFinite};
+
+use clauses::premises::Premises;
+use clauses::stack::Full;
+
+/// The numbers in which all stands, and the starts of premises and lemmas. Flat, not two stacks: of lent room in a struct in a struct one would not know what it
+/// holds afterwards.
+#[derive(Drop)]
+pub struct Search<'a> {
+    pub numbers: &'a mut [u64],
+    pub used: usize,
+    pub starts: &'a mut [u64],
+    pub count: usize,
+    /// The lemmas stand here: their number, and then each as a clause and its hints; if the goal is shown, its hints follow.
+    pub at: usize,
+    /// How many of the starts are those of premises.
+    pub given: usize,
+    pub goal: usize,
+    pub ghost written: { used ≤ length numbers.now },
+    pub ghost started: { count ≤ length starts.now },
+}
+
+impl<'a> Search<'a> {
+    ghost use Rattle.entails.specs.Searches.{Learned};
+
+    /// Premises and lemmas.
+    pub fn all(&self) -> Premises
+        ensures numbers { result.numbers.now ≡ self.now.numbers.now }
+        ensures starts { result.starts.now ≡ take self.now.count self.now.starts.now }
+        ensures most { result.most ≡ u64.MAX }
+    {
+        Premises {
+            numbers: self.numbers,
+            starts: &self.starts[..self.count],
+            most: u64::MAX,
+        }
+    }
+
+    /// The premises alone.
+    pub fn premises(&self) -> Premises
+        requires { self.now.given ≤ self.now.count }
+        ensures numbers { result.numbers.now ≡ self.now.numbers.now }
+        ensures starts { result.starts.now ≡ take self.now.given self.now.starts.now }
+        ensures most { result.most ≡ u64.MAX }
+    {
+        Premises {
+            numbers: self.numbers,
+            starts: &self.starts[..self.given],
+            most: u64::MAX,
+        }
+    }
+
+    /// One more number.
+    pub fn push(&mut self, x: u64) -> Result<(), Full>
+        ensures learned { Learned self.old self.new }
+        ensures more { OnOk result (self.new.used ≡ self.old.used + 1) }
+        ensures full { OnErr result (self.new.used ≡ length self.new.numbers.now) }
+        ensures lemmas { self.new.count ≡ self.old.count }
+    {
+        if self.used >= self.numbers.len() {
+            return Err(Full);
+        }
+        self.numbers[self.used] = x;
+        self.used += 1;
+        Ok(())
+    }
+
+    /// A list: its length, and then so many numbers.
+    pub fn push_list<I: Iterator<Item = u64> + Drop>(&mut self, items: I) -> Result<(), Full>
+        requires { I.can_next items × IsFinite (I.remaining items) }
+        ensures learned { Learned self.old self.new }
+        ensures full { OnErr result (self.new.used ≡ length self.new.numbers.now) }
+        ensures lemmas { self.new.count ≡ self.old.count }
+    {
+        let at = self.used;
+        self.push(0)?;
+        for x in items {
+            self.push(x)?;
+        }
+        self.numbers[at] = (self.used - at - 1) as u64;
+        Ok(())
+    }
+
+    /// One more lemma, which stands at s.
+    pub fn add(&mut self, s: usize)
+        requires { self.old.count < length self.old.starts.now }
+        ensures learned { Learned self.old self.new }
+        ensures used { self.new.used ≡ self.old.used }
+    {
+        self.starts[self.count] = s as u64;
+        self.count += 1;
+    }
+}
