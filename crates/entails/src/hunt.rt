@@ -55,7 +55,7 @@ fn turns(search: &mut Search, tries: &mut Tries, work: &mut Work) -> Result<Foun
     }
 }
 
-/// Looks for a way to show the goal, or for bits that refute it.
+/// Looks for a way to show the goal, or for bits that refute it. Room is lent slice by slice, each of which is then known to keep its length.
 pub fn hunt(
     search: &mut Search,
     value: &mut [u64],

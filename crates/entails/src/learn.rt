@@ -36,7 +36,7 @@ fn mark(premises: &Premises, known: &mut Known, c: usize, work: &mut Work) -> Re
 impl Tries<'_> {
     // Why the bit at this depth of the trail is there, if the conflict rests on it.
     fn rests_on(&self, d: usize) -> Option<Reason> {
-        let p = *self.known.trail.get(d)?;
+        let p = *self.known.assumed().get(d)?;
         let why = *self.reason.as_slice().get(d)?;
         if *self.known.value.get(p as usize)? < MARK {
             return None;
@@ -74,7 +74,7 @@ impl Tries<'_> {
         ensures lemmas { search.new.count ≡ search.old.count }
     {
         let value = &*self.known.value;
-        let trail = &self.known.trail[..self.known.depth];
+        let trail = self.known.assumed();
         let reasons = trail.iter().zip(self.reason.as_slice());
         let literals = reasons.filter_map(|(p, why)| match Reason::from(*why) {
             Reason::Denied | Reason::Tried => Some(*p << 1 | *value.get(*p as usize)? % 2),

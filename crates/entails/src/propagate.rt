@@ -52,6 +52,7 @@ impl<'a> Tries<'a> {
         requires { 0 < premises.now.most }
         ensures { work.new.left ≤ work.old.left }
     {
+        // By number: the reason names the premise.
         for c in 0..premises.starts.len() {
             match hint(premises, &mut self.known, c, work) {
                 Err(Stop::Conflict) => return Ok(Some(c)),

@@ -5,7 +5,8 @@ ghost use Rattle.std.specs.Iterator.{IsFinite};
 use clauses::premises::Premises;
 use clauses::stack::Full;
 
-/// The numbers in which all stands, and the starts of premises and lemmas.
+/// The numbers in which all stands, and the starts of premises and lemmas. Flat, not two stacks: of lent room in a struct in a struct one would not know what it
+/// holds afterwards.
 #[derive(Drop)]
 pub struct Search<'a> {
     pub numbers: &'a mut [u64],
