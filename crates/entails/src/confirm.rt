@@ -6,8 +6,9 @@ ghost use Rattle.entails.specs.Searches.{asked, wanted, Checked};
 
 use crate::search::Search;
 use budget::Work;
+use clauses::bits::UNKNOWN;
 use clauses::hints::follows_by;
-use clauses::known::{Known, UNKNOWN};
+use clauses::known::Known;
 use clauses::lemmas::add_lemmas;
 use clauses::lists::Lists;
 use clauses::premises::Premises;

@@ -4,12 +4,13 @@ ghost use Rattle.clauses.specs.Clauses.{Stands};
 
 use crate::reason::Reason;
 use budget::{Exhausted, Work};
+use clauses::bits::{Bit, UNKNOWN};
 use clauses::hints::hint;
-use clauses::known::{Bit, Known, UNKNOWN};
+use clauses::known::Known;
 use clauses::lists::list_at;
 use clauses::literal::Literal;
 use clauses::premises::Premises;
-use clauses::stack::{Full, Stack};
+use clauses::stack::Stack;
 use clauses::stop::Stop;
 
 /// What is known while bits are tried, and why each bit on the trail is.
@@ -39,12 +40,11 @@ impl<'a> Tries<'a> {
         }
     }
 
-    // What is new on the trail stands there for this reason.
-    fn note(&mut self, why: Reason) -> Result<(), Full> {
+    // What is new on the trail stands there for this reason. Past the end of the room nothing is noted.
+    fn note(&mut self, why: Reason) {
         for _ in self.reason.len..self.known.depth {
-            self.reason.push(why.into())?;
+            let _ = self.reason.push(why.into());
         }
-        Ok(())
     }
 
     // Goes once over the premises: the one that is false, if one is.
@@ -58,7 +58,7 @@ impl<'a> Tries<'a> {
                 Err(Stop::Conflict) => return Ok(Some(c)),
                 end => end?,
             }
-            self.note(Reason::Forced(c))?;
+            self.note(Reason::Forced(c));
         }
         Ok(None)
     }
@@ -111,7 +111,7 @@ impl<'a> Tries<'a> {
                     return Ok(None);
                 };
                 self.known.assume(l.position, !l.negated)?;
-                self.note(Reason::Tried)?;
+                self.note(Reason::Tried);
             }
         }
     }
@@ -129,7 +129,7 @@ impl<'a> Tries<'a> {
         forget(&mut self.known);
         self.reason.len = 0;
         let denied = self.known.deny(list_at(premises.numbers, goal).unwrap());
-        self.note(Reason::Denied)?;
+        self.note(Reason::Denied);
         match denied {
             // The goal holds of all bits. No premise is needed, and one that is not there has no effect as a hint.
             Err(Stop::Conflict) => Ok(Some(premises.starts.len())),
