@@ -87,7 +87,9 @@ impl Machine {
     {
         'cases: for case in &state.cases {
             for (key, pattern) in state.keys.iter().zip(&case.patterns) {
-                if let Pattern::Exactly(bits) = pattern && !self.equals(key, store, bits) {
+                if let Pattern::Exactly(bits) = pattern
+                    && !self.equals(key, store, bits)
+                {
                     continue 'cases;
                 }
             }
