@@ -29,13 +29,13 @@ pub(crate) fn write_headers(product: &Product, pair: u64, room: &mut [u64], at: 
     write_store(
         room,
         next,
-        product.second.side.machine.checked.parser.sizes.as_slice(),
+        &product.second.side.machine.checked.parser.sizes,
         second,
     );
     write_store(
         room,
         at,
-        product.first.side.machine.checked.parser.sizes.as_slice(),
+        &product.first.side.machine.checked.parser.sizes,
         first,
     );
 }
@@ -51,6 +51,7 @@ fn write_store(room: &mut [u64], at: usize, sizes: &[u16], contents: u64)
 {
     room[at] = sizes.len() as u64;
     let mut rest = contents;
+    // The mask is product's `low` again: one term, which is not worth a public function.
     // by index, since a proof knows nothing of what was written through the parts of `chunks_mut`
     for (i, size) in sizes.iter().enumerate() {
         let next = at + 1 + 2 * i;

@@ -38,7 +38,8 @@ pub fn compare(first: Side, second: Side, work: u64, most_room: u64, room: &mut 
     sweep_pairs(&product, work, left, room)
 }
 
-// What a sweep through all pairs takes of the room: its tables, and the longest message.
+// What a sweep through all pairs takes of the room: its tables, and the longest message. Its words are counted as
+// reach counts those of a set: one term, which is not worth a public function.
 fn room_for(pairs: u64) -> u64
     requires { pairs ≤ 2 ^ 60 }
     ensures { result ≡ room_for pairs }

@@ -56,7 +56,7 @@ fn lay_out(heap: Global, checked: &Checked) -> Result<Vec<u16>, AllocError>
 {
     let mut starts = Vec::new(heap);
     let mut next = 0;
-    for size in checked.parser.sizes.iter() {
+    for size in &checked.parser.sizes {
         starts.push(next)?;
         next += *size;
     }
@@ -68,7 +68,7 @@ fn count(heap: Global, checked: &Checked) -> Result<Vec<u16>, AllocError>
     ensures { IfOk result (λ v. v.items ≡ widths_of (parser_of checked.now.parser)) }
 {
     let mut widths = Vec::new(heap);
-    for state in checked.parser.states.iter() {
+    for state in &checked.parser.states {
         widths.push(count_ops(&state.ops, &checked.parser.sizes))?;
     }
     Ok(widths)

@@ -65,7 +65,7 @@ impl Store {
         true
     }
 
-    // its bits from bit k on become these
+    // Its bits from bit k on become these. Bit by bit, by number: bits are cut out of words.
     pub(crate) fn write(&mut self, k: usize, bits: &[u8])
         requires bits { are_bits bits.now ≡ true }
         requires room { k + length bits.now ≤ 4096 }
@@ -76,7 +76,7 @@ impl Store {
         }
     }
 
-    // n of its bits from bit k on become those of another from bit `start` on
+    // N of its bits from bit k on become those of another from bit `start` on, bit by bit too.
     pub(crate) fn copy(&mut self, k: usize, other: &Store, start: usize, n: usize)
         requires there { start + n ≤ 4096 }
         requires room { k + n ≤ 4096 }

@@ -42,7 +42,7 @@ impl Machine {
         ensures { contents self.now store.new ≡ run_ops (sizes_in self.now) (state_of state.now).ops part.now (contents self.now store.old) }
     {
         let mut rest = part;
-        for op in state.ops.iter() {
+        for op in &state.ops {
             match op {
                 Op::Extract(h) => {
                     let (bits, after) = rest.split_at(self.size(*h));
@@ -85,12 +85,12 @@ impl Machine {
         requires { Sound (sizes_in self.now) (state_count self.now) (state_of state.now) }
         ensures { target_of result ≡ selected (contents self.now store.now) (state_of state.now) }
     {
-        'cases: for case in state.cases.iter() {
-            for (key, pattern) in state.keys.iter().zip(case.patterns.iter()) {
-                if let Pattern::Exactly(bits) = pattern {
-                    if !self.equals(key, store, bits) {
-                        continue 'cases;
-                    }
+        'cases: for case in &state.cases {
+            for (key, pattern) in state.keys.iter().zip(&case.patterns) {
+                if let Pattern::Exactly(bits) = pattern
+                    && !self.equals(key, store, bits)
+                {
+                    continue 'cases;
                 }
             }
             return case.target;

@@ -1,8 +1,8 @@
 -- A configuration by value, packed into a number and back. Assumes nothing.
-use Rattle.std.proofs.Common.{◌≡◌, ℕ, zero, suc, ◌+◌, ◌*◌, ◌/◌, ◌%◌, ◌^◌, ◌<◌, ◌≤◌, true, false, cond, eqb, ltb, List, [], length, sym, refl, ap, ◌∙◌, subst, ap₂, ⊎_elim, mod-eq_of_lt, arith}
+use Rattle.std.proofs.Common.{◌≡◌, ℕ, zero, suc, ◌+◌, ◌*◌, ◌/◌, ◌%◌, ◌^◌, ◌<◌, ◌≤◌, true, cond, eqb, ltb, List, [], length, sym, refl, ap, ◌∙◌, subst, ap₂, ⊎_elim, mod-eq_of_lt, arith}
 use lib.Bits.{bit_or}
 use Rattle.std.proofs.lemmas.Nat.{pow_pos, pow_below, or_shifted, mod_low, mod_below}
-use Rattle.std.proofs.lemmas.Bool.{lt-ltb, le-ltb, eq-eqb, ne_eqb, cond-true, cond-false, cases_lt, cond_both, ltb-true}
+use Rattle.std.proofs.lemmas.Bool.{lt-ltb, le-ltb, eq-eqb, ne_eqb, cond-true, cond-false, cases_lt}
 use Rattle.model.specs.Parser.{Target, state, accept, reject, Parser, Store}
 use Rattle.model.specs.Refusal.{fault, sum, widest}
 use Rattle.model.specs.Promise.{config_count}
@@ -34,13 +34,6 @@ module _ {n m : ℕ} (k : ℕ) (is : n ≡ m) where
 
     pub number_is_reject : (k ≡ n → ⊥) → reject ≡ number_target m k
     number_is_reject ne = sym (past_states ∙ cond-false (eqb k m) _ _ (ne_eqb k m (λ e. ne (omega arith))))
-
-pub accept_number : (n k : ℕ) → eqb k n ≡ is_accept (number_target n k)
-unfolding is_accept
-accept_number n k =
-    cond_both (ltb k n) (state k) (cond (eqb k n) accept reject) (λ t. eqb k n ≡ is_accept t)
-    (λ e. ne_eqb k n (λ same. let l : k < n = ltb-true k n e in omega arith))
-    (λ e. elim (eqb k n) as (λ b. b ≡ is_accept (cond b accept reject)) [ true ↦ refl | false ↦ refl ])
 
 -- a buffer's number is never 0
 

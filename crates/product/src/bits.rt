@@ -2,7 +2,7 @@
 ghost use Rattle.std.specs.Prelude.{◌≡◌, ℕ, ◌+◌, ◌*◌, ◌%◌, ◌^◌, ◌<◌, ◌≤◌, length, take};
 ghost use Rattle.theory.specs.Number.{number_bits};
 
-// the lowest bits of a number
+// The lowest bits of a number.
 pub(crate) fn low(k: u64, bits: u16) -> u64
     requires { bits < 64 }
     ensures { result ≡ k % 2 ^ bits }
@@ -10,7 +10,7 @@ pub(crate) fn low(k: u64, bits: u16) -> u64
     k & ((1 << bits) - 1)
 }
 
-// one bit more in a buffer that holds so many
+// One bit more in a buffer that holds so many.
 pub(crate) fn push(buffer: u64, held: u32, bit: u64) -> u64
     requires small { buffer < 2 ^ 60 }
     requires within { held < 60 }
@@ -20,7 +20,7 @@ pub(crate) fn push(buffer: u64, held: u32, bit: u64) -> u64
     buffer + ((1 + bit) << held)
 }
 
-// the lowest n bits of a number, one to a byte
+// The lowest n bits of a number, one to a byte: room for 64, since the search has no heap.
 pub(crate) fn spread(bits: u64, n: usize) -> [u8; 64]
     requires { n ≤ 64 }
     ensures bits { take n result ≡ number_bits n bits }

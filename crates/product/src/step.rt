@@ -55,6 +55,7 @@ impl Counted {
         low(k >> self.side.buffer_bits, self.side.header_bits)
     }
 
+    // `Stands` ties a configuration to its parser, so it is no field of Config.
     fn decode(&self, k: u64) -> Config
         requires { good_number (side_parser self.now.side) k ≡ true }
         ensures same { config_in (side_parser self.now.side) result ≡ number_config (side_parser self.now.side) k }

@@ -11,7 +11,7 @@ use crate::way::{spell, trace};
 use budget::{Exhausted, Work};
 
 // From this start the message that stands in the room at `at` leads to a bad configuration.
-#[derive(Clone, Copy, PartialEq, Debug)]
+#[derive(Clone, Copy, PartialEq, Eq, Debug)]
 pub struct Reached {
     pub start: u64,
     pub at: usize,

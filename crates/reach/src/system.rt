@@ -22,7 +22,7 @@ pub trait System {
         ensures good { (model self.now).good result ≡ true }
         ensures below { result < (model self.now).count };
 
-    // Where a bit leads.
+    // Where a bit leads. A bit is a number here, since it is shifted and added to what it follows.
     fn after(&self, p: u64, bit: u64) -> u64
         requires good { (model self.now).good p ≡ true }
         requires below { p < (model self.now).count }

@@ -1,6 +1,6 @@
 // Symbols in place of bits: what one side of a leap does to every configuration at a point at once,
-// and what must hold of the bits for each outcome. Read point, then leaps with row, eval and walk
-// under it; select and outcome are about the select that follows; size says how far to leap.
+// and what must hold of the bits for each outcome. Read point and heads, then leaps with row, eval and
+// walk under it; select and outcome are about the select that follows; size says how far to leap.
 #![tactic(auto)]
 
 mod eval;

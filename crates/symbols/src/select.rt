@@ -16,7 +16,7 @@ use syntax::{Expr, Pattern};
 impl Heads<'_> {
     // For each bit of the patterns of a case the symbol that is held to it, then the bit, from `at` on. None
     // where there is no room, else the place after them. Whatever bits there are at the positions, all pairs
-    // hold just if the case matches.
+    // hold just if the case matches. A formula is written into lent numbers from their middle on.
     pub fn condition(&self, q: u16, case: usize, out: &mut [u64], at: usize) -> Option<usize>
         requires known { q < state_count self.now.machine.now }
         requires there { case < length (state_in self.now.machine.now q).cases }
@@ -30,7 +30,7 @@ impl Heads<'_> {
         self.hold(&state.keys, &state.cases[case].patterns, out, at)
     }
 
-    // the same for keys and their patterns
+    // The same for keys and their patterns. machine's select stops where this writes, so each has its loop.
     fn hold(&self, keys: &[Expr], patterns: &[Pattern], out: &mut [u64], at: usize) -> Option<usize>
         requires named { every (named_expr (sizes_in self.now.machine.now)) (map expr_of keys.now) ≡ true }
         requires sized { every (sized_expr (sizes_in self.now.machine.now)) (map expr_of keys.now) ≡ true }
@@ -41,7 +41,7 @@ impl Heads<'_> {
         ensures wrote { IfSome result (λ n. take n out.new ≡ take at out.old ++ condition_of (symbols_in self.now.machine.now self.now.symbols.now) (map expr_of keys.now) (map pattern_of patterns.now)) }
     {
         let mut next = at;
-        for (key, pattern) in keys.iter().zip(patterns.iter()) {
+        for (key, pattern) in keys.iter().zip(patterns) {
             if let Pattern::Exactly(bits) = pattern {
                 if (out.len() - next) / 2 < bits.len() {
                     return None;
@@ -69,7 +69,7 @@ impl Heads<'_> {
 }
 
 // As many symbols as bits, which stand that many places after `at`, become pairs from `at` on. The
-// pairs never come up to a symbol that is still to be moved.
+// pairs never come up to a symbol that is still to be moved. By index, since it reads further up the row that it writes.
 fn pair_up(bits: &[u8], out: &mut [u64], at: usize)
     requires { at + 2 * length bits.now ≤ length out.old }
     ensures { take (at + 2 * length bits.now) out.new ≡ take at out.old ++ paired (part (in_row out.old) (at + length bits.now) (length bits.now)) bits.now }

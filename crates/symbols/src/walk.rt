@@ -14,6 +14,7 @@ use syntax::{Expr, Op, State};
 
 // All ops of a state, one after the other. `heads` and `scratch` stand beside the machine here and below: a
 // struct that held them to be written would have each method promise that they are still the same rows.
+// machine has the same loop over bits in a store: a trait of both, with laws of put and assign, would be longer than the loop.
 pub(crate) fn perform(
     machine: &Machine,
     state: &State,
@@ -28,7 +29,7 @@ pub(crate) fn perform(
     ensures { symbols_in machine.now heads.new ≡ run_ops (sizes_in machine.now) (state_of state.now).ops part.now (symbols_in machine.now heads.old) }
 {
     let mut rest = part;
-    for op in state.ops.iter() {
+    for op in &state.ops {
         match op {
             Op::Extract(h) => {
                 let (symbols, after) = rest.split_at(machine.size(*h));

@@ -8,10 +8,10 @@ use Rattle.compare.proofs.Heading.{first_narrow, second_narrow, headed}
 use Rattle.compare.proofs.headers.write_headers.Goals as goal
 
 pub write_store-requires-clause-narrow : goal.write_store-requires-clause-narrow
-write_store-requires-clause-narrow c = subst Narrow (sym c.as_slice.ensures.value) (second_narrow c.args.product.now)
+write_store-requires-clause-narrow c = subst Narrow (sym c.deref.ensures.value) (second_narrow c.args.product.now)
 
 pub write_store-requires-2-clause-narrow : goal.write_store-requires-2-clause-narrow
-write_store-requires-2-clause-narrow c = subst Narrow (sym c.as_slice-2.ensures.value) (first_narrow c.args.product.now)
+write_store-requires-2-clause-narrow c = subst Narrow (sym c.deref-2.ensures.value) (first_narrow c.args.product.now)
 
 pub returns : goal.returns
 returns c =
@@ -24,8 +24,8 @@ returns c =
     let y = c.headers-first.result.1 in
     let n = sizes_in c.args.product.now.second.side.machine in
     let first_words = c.header_words.ensures.value in
-    let second_sizes = c.as_slice.ensures.value in
-    let first_sizes = c.as_slice-2.ensures.value in
+    let second_sizes = c.deref.ensures.value in
+    let first_sizes = c.deref-2.ensures.value in
     headed s c.args.pair at before middle room x y c.headers-first.ensures.first c.headers-first.ensures.second
     (subst (λ w. store_in middle (at + w) ≡ parted n (number_bits (sum n) y)) first_words (subst (λ ns. store_in middle (at + c.header_words.result) ≡ parted ns (number_bits (sum ns) y)) second_sizes c.write_store.ensures.store))
     (subst (λ w. store_end middle (at + w) ≡ (at + w) + store_words n) first_words

@@ -4,7 +4,7 @@ use Rattle.machine.specs.Row.{part}
 use Rattle.machine.specs.Window.{Written}
 use Rattle.machine.proofs.Rows.{part_at}
 use Rattle.machine.proofs.Small.{bit_told}
-use Rattle.rows.proofs.Words.{bit_below}
+use Rattle.std.proofs.lemmas.Nat.Bits.{bit_at-lt}
 use Rattle.machine.proofs.Writes.{write_more}
 use Rattle.machine.proofs.store.Store.copy.Goals as goal
 
@@ -15,7 +15,7 @@ loop-i-preserved c =
     let j : ℕ = c.args.start + i in
     let within : i < c.args.n = omega arith in
     write_more c.loop-i.invariant
-    (c.set.ensures.here ∙ ap (λ b. cond (eqb b 1) 1 0) c.get.ensures ∙ bit_told (bit_in ws j) (bit_below (get_or ws (j / 64) 0) (j % 64)) ∙ sym (part_at (bit_in ws) c.args.start c.args.n i within))
+    (c.set.ensures.here ∙ ap (λ b. cond (eqb b 1) 1 0) c.get.ensures ∙ bit_told (bit_in ws j) (bit_at-lt (get_or ws (j / 64) 0) (j % 64)) ∙ sym (part_at (bit_in ws) c.args.start c.args.n i within))
     c.set.ensures.others
 
 pub returns : goal.returns

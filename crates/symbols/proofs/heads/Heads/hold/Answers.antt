@@ -16,7 +16,7 @@ loop-key-init c =
     let whole : List ℕ = start ++ condition_of s (map expr_of c.args.keys.now) (map pattern_of c.args.patterns.now) in
     let zipped = c.into_iter-key-iterator.ensures.into_iter_gives in
     let first = ap (λ i. i.a.rest.now) zipped ∙ ap (λ i. i.rest.now) c.zip-key-items.ensures.first ∙ c.iter.ensures.rest in
-    let second = ap (λ i. i.b.rest.now) zipped ∙ ap (λ i. i.rest.now) c.zip-key-items.ensures.second ∙ c.iter-2.ensures.rest in
+    let second = ap (λ i. i.b.rest.now) zipped ∙ c.zip-key-items.ensures.second.0 in
     subst (λ xs. Left ns s start c.args.at c.args.out.now whole c.args.at xs c.into_iter-key-iterator.result.b.rest.now) (sym first)
     (subst (Left ns s start c.args.at c.args.out.now whole c.args.at c.args.keys.now) (sym second)
     (record { same = refl; kept = refl; named = c.requires.named; sized = c.requires.sized; wide = c.requires.wide; reached = omega arith; room = c.requires.within }))
