@@ -3,12 +3,12 @@
 
 ghost use Rattle.std.specs.Prelude.{◌≡◌, ◌+◌, ◌<◌, OnOk, OnErr};
 
-// The work is used up.
+// What was given is used up.
 #[derive(Clone, Copy, PartialEq, Eq, Debug)]
 pub struct Exhausted;
 
-// How many turns are left.
-#[derive(Clone, Copy)]
+// How many turns are left. It is no Copy, since a copy would be the same work twice.
+#[derive(Drop)]
 pub struct Work {
     pub left: u64,
 }

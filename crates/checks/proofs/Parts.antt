@@ -1,19 +1,14 @@
 -- What a check asks of a parser and of a state, over the lists of the code and in its order. Assumes nothing.
-use Rattle.std.proofs.Common.{◌≡◌, ℕ, Bool, true, false, ◌&&◌, ltb, leb, List, map, length, vec_items, refl, ap, ◌∙◌}
+use Rattle.std.proofs.Common.{◌≡◌, ℕ, ◌&&◌, ltb, leb, List, map, length, vec_items, refl, ap, ◌∙◌}
 use lib.ListN.{length-map}
+use Rattle.std.proofs.Math.Bool.{and_assoc}
 use Rattle.std.specs.List.{list_all}
 use Rattle.model.specs.Parser.{ops_width}
 use Rattle.model.specs.Refusal.{every, named, named_op, named_expr, named_target, named_state, narrow, shallow, shallow_op, shallow_state, sized, sized_op, sized_expr, sized_patterns, sized_state, taking}
-use Rattle.model.proofs.Every.{every_map, every_same}
-use Rattle.syntax.specs.View.{op_of, expr_of, case_of, target_of, state_of, parser_of}
+use Rattle.syntax.specs.View.{op_of, expr_of, pattern_of, case_of, target_of, state_of, parser_of}
 use Rattle.syntax.specs.declared.ast.State.{State}
 use Rattle.syntax.specs.declared.ast.Parser.{Parser}
-use Rattle.checks.specs.Paired.{paired_patterns}
-use Rattle.checks.proofs.Tested.{every_is, every_mapped, sized_patterns_of, narrow_of}
-
-and_assoc : (a b c : Bool) → ((a && b) && c) ≡ (a && (b && c))
-and_assoc true b c = refl
-and_assoc false b c = refl
+use Rattle.checks.proofs.Tested.{every_mapped, narrow_of}
 
 pub named-state_of : (ns : List ℕ) (n : ℕ) (q : State)
     → named_state ns n (state_of q)
@@ -28,27 +23,18 @@ pub shallow-state_of : (q : State)
     → shallow_state (state_of q) ≡ (list_all (λ o. shallow_op (op_of o)) (vec_items q.ops) && list_all (λ e. shallow (expr_of e)) (vec_items q.keys))
 shallow-state_of q = rw (every_mapped shallow_op op_of (vec_items q.ops), every_mapped shallow expr_of (vec_items q.keys))
 
-and_same : (a b c : Bool) → (a ≡ true → b ≡ c) → (a && b) ≡ (a && c)
-and_same true b c e = e refl
-and_same false b c e = refl
-
 pub sized-state_of : (ns : List ℕ) (q : State)
     → sized_state ns (state_of q)
     ≡ (list_all (λ o. sized_op ns (op_of o)) (vec_items q.ops)
     && (list_all (λ e. sized_expr ns (expr_of e)) (vec_items q.keys)
-    && list_all (λ k. paired_patterns ns (vec_items q.keys) (vec_items k.patterns)) (vec_items q.cases)))
+    && list_all (λ k. sized_patterns ns (map expr_of (vec_items q.keys)) (map pattern_of (vec_items k.patterns))) (vec_items q.cases)))
 sized-state_of ns q =
     rw (
       every_mapped (sized_op ns) op_of (vec_items q.ops),
-      every_map (sized_expr ns) expr_of (vec_items q.keys),
-      every_map (λ k. sized_patterns ns (map expr_of (vec_items q.keys)) k.patterns) case_of (vec_items q.cases),
+      every_mapped (sized_expr ns) expr_of (vec_items q.keys),
+      every_mapped (λ k. sized_patterns ns (map expr_of (vec_items q.keys)) k.patterns) case_of (vec_items q.cases),
     )
-    (ap (λ t. list_all (λ o. sized_op ns (op_of o)) (vec_items q.ops) && t)
-    (and_same (every (λ e. sized_expr ns (expr_of e)) (vec_items q.keys)) _ _
-    (λ t.
-    every_same _ _ (λ k. sized_patterns_of ns (vec_items q.keys) (vec_items k.patterns) t) (vec_items q.cases)
-    ∙ every_is (λ k. paired_patterns ns (vec_items q.keys) (vec_items k.patterns)) (vec_items q.cases))
-    ∙ ap (λ t. t && list_all (λ k. paired_patterns ns (vec_items q.keys) (vec_items k.patterns)) (vec_items q.cases)) (every_is (λ e. sized_expr ns (expr_of e)) (vec_items q.keys))))
+    refl
 
 -- the same of a whole parser
 module _ (p : Parser) where

@@ -1,12 +1,8 @@
 -- Two lists whose elements belong together: bits to headers, patterns to keys. Assumes nothing.
 use Rattle.std.specs.Prelude.{ℕ, Bool, true, ◌&&◌, List, length, ◌==◌}
-use Rattle.std.specs.List.{list_all, zip}
 use Rattle.model.specs.Parser as M
 use Rattle.model.specs.Parser.{Bits, exactly, any}
 use Rattle.model.specs.Refusal.{are_bits, sized_expr, expr_width}
-use Rattle.syntax.specs.View.{expr_of, pattern_of}
-use Rattle.syntax.specs.declared.ast.Expr.{Expr}
-use Rattle.syntax.specs.declared.ast.Pattern.{Pattern}
 
 -- bits for a header of so many
 abbrev pub header_fits : ℕ → Bits → Bool
@@ -16,7 +12,3 @@ header_fits n bs = length bs == n && are_bits bs
 abbrev pub sized_pattern : List ℕ → M.Expr → M.Pattern → Bool
 sized_pattern ns e (exactly bs) = sized_expr ns e && (are_bits bs && length bs == expr_width ns e)
 sized_pattern ns e any = true
-
--- as many patterns as keys, each of its key's width
-abbrev pub paired_patterns : List ℕ → List Expr → List Pattern → Bool
-paired_patterns ns es ps = length es == length ps && list_all (λ p. sized_pattern ns (expr_of p.0) (pattern_of p.1)) (zip es ps)

@@ -1,8 +1,7 @@
 // Are rows of bits right: an input, and what is in the headers.
-ghost use Rattle.std.specs.Prelude.{◌≡◌};
+ghost use Rattle.std.specs.Prelude.{◌≡◌, map, vec_items};
 ghost use Rattle.std.specs.List.{list_all, zip};
 ghost use Rattle.model.specs.Refusal.{are_bits, store_fits};
-ghost use Rattle.syntax.specs.View.{store_of};
 ghost use Rattle.checks.specs.Paired.{header_fits};
 
 // Is each of them 0 or 1?
@@ -13,8 +12,8 @@ pub fn are_bits(bits: &[u8]) -> bool
 }
 
 // Does each header of these sizes have its bits?
-pub fn store_fits(sizes: &[u16], headers: &Vec<Vec<u8>>) -> bool
-    ensures { result ≡ store_fits sizes.now (store_of headers.now) }
+pub fn store_fits(sizes: &[u16], headers: &[Vec<u8>]) -> bool
+    ensures { result ≡ store_fits sizes.now (map vec_items headers.now) }
 {
     sizes.len() == headers.len() && each_fits(sizes, headers)
 }

@@ -19,7 +19,7 @@ pub enum Fault {
 }
 
 impl Fault {
-    // By which number it is told.
+    // By which number it is told. A method, since the number is what users are told, not a form of the fault.
     pub fn number(self) -> u8
         ensures { result ≡ number_of self }
     {

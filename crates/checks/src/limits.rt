@@ -8,7 +8,7 @@ ghost use Rattle.syntax.specs.View.{case_of, expr_of, op_of, parser_of, pattern_
 ghost use Rattle.checks.specs.Measured.{Spent, headers_within, states_within};
 
 use crate::pay::{Parts, pay_all};
-use syntax::{Case, Expr, Op, Parser, Pattern, State};
+use syntax::{Case, DEPTH, Expr, Op, Parser, Pattern, State};
 
 // What a parser may have at most.
 const HEADERS: usize = 64;
@@ -18,9 +18,6 @@ const HEADER_BITS: usize = 4096;
 const STATES: usize = 64;
 
 const PARTS: usize = 16384;
-
-// How many expressions may stand around one.
-const DEPTH: u8 = 15;
 
 // Depth is looked at before what else recurses.
 pub(crate) fn within_limits(parser: &Parser) -> bool
@@ -42,6 +39,7 @@ fn have_bits(sizes: &[u16]) -> bool
     sizes.iter().all(|size| *size > 0)
 }
 
+// As machine's measure has it: one chain.
 fn total_bits(sizes: &[u16]) -> usize
     requires { length sizes.now ≤ 64 }
     ensures { result ≡ sum sizes.now }

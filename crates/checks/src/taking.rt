@@ -41,7 +41,7 @@ impl Widths<'_> {
         states.iter().all(|state| self.taken(state).is_some())
     }
 
-    // How many bits a state takes, if not too many.
+    // How many bits a state takes, if not too many. Written out, since `try_fold` would want a lemma.
     fn taken(&self, state: &State) -> Option<usize>
         ensures { Measured (nat_le (ops_width self.now.sizes.now (state_of state.now).ops) 4096) (ops_width self.now.sizes.now (state_of state.now).ops) result }
     {

@@ -1,11 +1,11 @@
 // Has each part of a parser its width: slices lie within, what is assigned fills its header, and a pattern is as wide as its key.
-ghost use Rattle.std.specs.Prelude.{◌≡◌, slice_index};
+ghost use Rattle.std.specs.Prelude.{◌≡◌, true, map, slice_index};
 ghost use Rattle.std.specs.List.{list_all, zip};
 ghost use Rattle.model.specs.Refusal.{expr_width, sized_expr, sized_op, sized_patterns, sized_state};
 ghost use Rattle.model.specs.Refusal.{sized as all_sized};
 ghost use Rattle.syntax.specs.View.{expr_of, op_of, parser_of, pattern_of, state_of};
 ghost use Rattle.checks.specs.Measured.{Measured};
-ghost use Rattle.checks.specs.Paired.{paired_patterns, sized_pattern};
+ghost use Rattle.checks.specs.Paired.{sized_pattern};
 
 use crate::contents::are_bits;
 use syntax::{Case, Expr, Op, Parser, Pattern, State};
@@ -65,14 +65,14 @@ impl<'a> Widths<'a> {
     }
 
     fn cases(&self, keys: &[Expr], cases: &[Case]) -> bool
-        ensures { result ≡ list_all (λ k. paired_patterns self.now.sizes.now keys.now k.patterns.items) cases.now }
+        ensures { list_all (λ e. sized_expr self.now.sizes.now (expr_of e)) keys.now ≡ true → result ≡ list_all (λ k. sized_patterns self.now.sizes.now (map expr_of keys.now) (map pattern_of k.patterns.items)) cases.now }
     {
         cases.iter().all(|case| self.patterns(keys, &case.patterns))
     }
 
-    // A pattern for each key.
+    // A pattern for each key, each of its key's width.
     fn patterns(&self, keys: &[Expr], patterns: &[Pattern]) -> bool
-        ensures { result ≡ paired_patterns self.now.sizes.now keys.now patterns.now }
+        ensures { list_all (λ e. sized_expr self.now.sizes.now (expr_of e)) keys.now ≡ true → result ≡ sized_patterns self.now.sizes.now (map expr_of keys.now) (map pattern_of patterns.now) }
     {
         keys.len() == patterns.len() && self.each_pattern(keys, patterns)
     }
@@ -103,7 +103,7 @@ impl<'a> Widths<'a> {
         }
     }
 
-    // How many bits an expression has, if those of its parts are right.
+    // How many bits an expression has, if those of its parts are right. Tests by `if`, which is plainer here than `then_some`.
     fn expr(&self, e: &Expr) -> Option<usize>
         ensures { Measured (sized_expr self.now.sizes.now (expr_of e.now)) (expr_width self.now.sizes.now (expr_of e.now)) result }
     {

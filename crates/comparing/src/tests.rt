@@ -31,14 +31,12 @@ fn compares(rt: HostRuntime) -> Result<(), Fail> {
     let unlike = answered(heap, &[&[1], ZERO, ONE, &[0; 4], ENOUGH])?;
     assert!(rt; matches!(unlike, Answer::Unlike { .. }));
     let unfit = answered(heap, &[&[1], ZERO, ONE, &[0, 0, 0, 1], ENOUGH])?;
-    assert!(rt;
-        matches!(
-            unfit,
-            Answer::Refused {
-                number: 7,
-                offset: 0
-            }
-        )
+    assert_eq!(rt;
+        unfit,
+        Answer::Refused {
+            number: 7,
+            offset: 0
+        }
     );
     Ok(())
 }

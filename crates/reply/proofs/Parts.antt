@@ -1,19 +1,10 @@
 -- Parts of the room: one after another, and past its end.
-use Rattle.std.proofs.Common.{◌≡◌, ℕ, zero, suc, ◌+◌, ◌/◌, min, List, ◌∷◌, length, get_or, drop, sym, refl, ap, ◌∙◌, ⊎_elim, arith}
-use Rattle.std.proofs.lemmas.List.{drop_all, drop-drop, get_or-drop}
-use Rattle.std.proofs.lemmas.Bool.{cases_lt}
+use Rattle.std.proofs.Common.{◌≡◌, ℕ, zero, suc, ◌+◌, ◌/◌, List, ◌∷◌, get_or, drop, refl, ap, ◌∙◌, arith}
+use Rattle.std.proofs.lemmas.List.{drop-drop, get_or-drop}
 use Rattle.format.specs.Written.{row, store}
 use Rattle.reply.specs.Appends.{difference}
 use Rattle.reply.specs.Front.{front_row, past_row, front_rows, past_rows, front_store, past_store}
 use Rattle.rows.specs.Row.{bits_in, row_in, row_end, rows_in, rows_end, store_in, store_end}
-
--- no more than there are
-pub drop_min : (ws : List ℕ) (n : ℕ) → drop (min n (length ws)) ws ≡ drop n ws
-drop_min ws n =
-    ⊎_elim
-    (λ l. let e : min n (length ws) ≡ n = omega arith in ap (λ m. drop m ws) e)
-    (λ l. let e : min n (length ws) ≡ length ws = omega arith in ap (λ m. drop m ws) e ∙ drop_all (length ws) ws (omega arith) ∙ sym (drop_all n ws l))
-    (cases_lt n (length ws))
 
 -- what stands at an offset of the room stands at the front of what comes from there on
 count_drop : (room : List ℕ) (at : ℕ) → get_or (drop at room) 0 0 ≡ get_or room at 0

@@ -1,6 +1,6 @@
 // What is answered. What each case means, with its number and values, is specs/View.antt.
 
-#[derive(Clone, Copy)]
+#[derive(Clone, Copy, PartialEq, Eq, Debug)]
 pub enum Answer {
     // 0: by which number, and where the bytes cease to be a request
     Refused { number: u8, offset: u64 },

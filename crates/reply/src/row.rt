@@ -10,6 +10,7 @@ pub(crate) struct Row<'a> {
 }
 
 impl Row<'_> {
+    // Not `rows::get`, which wants the bit to be there.
     pub(crate) fn bit(&self, k: u64) -> u8
         ensures { result ≡ bit_in self.now.words.now k }
     {

@@ -6,6 +6,7 @@ use Rattle.std.proofs.lemmas.List.{get_or_past}
 use Rattle.format.specs.Read.{Read, got, failed, bind, read_number, read_tagged}
 use Rattle.scan.specs.Reads.{Place, left, Took, Stopped, Failed, ceased, no_memory, Is}
 use Rattle.scan.specs.Skim.{read_tag}
+use Rattle.std.specs.declared.alloc.AllocError.{AllocError}
 use Rattle.scan.specs.declared.fault.Fault.{Fault}
 use Rattle.scan.specs.declared.fault.Fault.TheVariants.{Memory, Garbled}
 
@@ -14,7 +15,7 @@ pub took : {X Y : Type 0} {means : X → Y → Type 0} {p : Place} {x : X} (y : 
 took y l m = record { within = l; same = refl; value = y; reads = refl; meant = m }
 
 -- no memory for what was read
-pub no_room : {Y : Type 0} {r : Read Y} {p : Place} → Stopped r p p Memory
+pub no_room : {Y : Type 0} {r : Read Y} {p : Place} {error : AllocError} → Stopped r p p (Memory error)
 no_room = record { same = refl; why = no_memory }
 
 -- read by a definition that is equal

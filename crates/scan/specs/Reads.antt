@@ -1,6 +1,7 @@
 -- What it is to have read something from bytes. Assumes nothing.
 use Rattle.std.specs.Prelude.{◌≡◌, ℕ, ◌≤◌, Bool, false, List, length, drop, Some, None, Option, Result, MatchResult}
 use Rattle.format.specs.Read.{Read, got, failed}
+use Rattle.std.specs.declared.alloc.AllocError.{AllocError}
 use Rattle.scan.specs.declared.fault.Fault.{Fault}
 use Rattle.scan.specs.declared.fault.Fault.TheVariants.{Memory, Garbled}
 
@@ -29,7 +30,7 @@ pub record Ceased {Y : Type 0} (r : Read Y) (bytes : List ℕ) (k : ℕ) : Type 
 -- why nothing was read
 pub data Failed {Y : Type 0} (r : Read Y) (bytes : List ℕ) : Fault → Type 0 where
   ceased : {k : ℕ} → Ceased r bytes k → Failed r bytes (Garbled k)
-  no_memory : Failed r bytes Memory
+  no_memory : {error : AllocError} → Failed r bytes (Memory error)
 
 -- nothing was read, and the reader still has its bytes
 pub record Stopped {Y : Type 0} (r : Read Y) (old new : Place) (e : Fault) : Type 0 where

@@ -1,5 +1,5 @@
 // Why nothing could be read.
-ghost use Rattle.std.specs.Prelude.{◌≡◌};
+ghost use Rattle.std.specs.Prelude.{◌≡◌, alloc_error};
 ghost use Rattle.scan.specs.declared.fault.Fault.TheVariants.{Memory};
 
 use std::alloc::{AllocError, AllocFailed};
@@ -7,22 +7,22 @@ use std::alloc::{AllocError, AllocFailed};
 // Want of memory; or bytes that cease to be a request, and where they do.
 #[derive(Clone, Copy, PartialEq, Eq, Debug)]
 pub enum Fault {
-    Memory,
+    Memory(AllocError),
     Garbled(usize),
 }
 
 impl From<AllocError> for Fault {
-    ghost from_gives = { λ _ f. f ≡ Memory };
+    ghost from_gives = { λ e f. f ≡ Memory e };
 
-    fn from(_: AllocError) -> Fault {
-        Fault::Memory
+    fn from(e: AllocError) -> Fault {
+        Fault::Memory(e)
     }
 }
 
 impl<T: Drop> From<AllocFailed<T>> for Fault {
-    ghost from_gives = { λ _ f. f ≡ Memory };
+    ghost from_gives = { λ _ f. f ≡ Memory alloc_error };
 
-    fn from(_: AllocFailed<T>) -> Fault {
-        Fault::Memory
+    fn from(failed: AllocFailed<T>) -> Fault {
+        Fault::Memory(AllocError::from(failed))
     }
 }

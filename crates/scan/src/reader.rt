@@ -77,7 +77,7 @@ impl<'a> Reader<'a> {
         Ok(&left[..count as usize])
     }
 
-    // A number of so many bytes, the highest first.
+    // A number of so many bytes, the highest first: at most eight, since a u64 holds no more.
     pub fn number(&mut self, width: u64) -> Result<u64, Fault>
         requires narrow { width ≤ 8 }
         ensures reads { Reads (read_number width) (Is (λ n. n)) self.old self.new result }
@@ -85,6 +85,7 @@ impl<'a> Reader<'a> {
         ensures moved { IfOk result (λ _. self.new.at ≡ self.old.at + width) }
         ensures succeeds { self.old.at + width ≤ length self.old.bytes → is_ok result ≡ true }
     {
+        // a loop: what a fold comes to has no bound that is found
         let mut n = 0;
         for digit in self.take(width)? {
             n = n * 256 + *digit as u64;
@@ -106,7 +107,7 @@ impl<'a> Reader<'a> {
         Ok(self.number(2)? as u16)
     }
 
-    // Which of so many kinds the next thing is.
+    // Which of so many kinds the next thing is, as the format numbers them; each type matches its own, so that no second enum stands beside it.
     pub fn tag(&mut self, kinds: u8) -> Result<u8, Fault>
         ensures reads { Reads (read_tag kinds) (Is (λ n. n)) self.old self.new result }
         ensures below { IfOk result (λ tag. tag < kinds) }

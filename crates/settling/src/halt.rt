@@ -39,8 +39,7 @@ impl From<Fault> for Halt {
     fn from(fault: Fault) -> Halt {
         match fault {
             Fault::Garbled(at) => Halt::Refused(Refusal::Garbled(at)),
-            // scan's fault keeps no error to hand on
-            Fault::Memory => Halt::Memory(AllocError),
+            Fault::Memory(e) => Halt::Memory(e),
         }
     }
 }

@@ -1,8 +1,8 @@
 // A request to parse: is it right, and is its input accepted.
-ghost use Rattle.std.specs.Prelude.{◌≡◌, ℕ, Bool, true, List};
+ghost use Rattle.std.specs.Prelude.{◌≡◌, ℕ, Bool, true, List, map, vec_items};
 ghost use Rattle.model.specs.Request.{parse_fits};
 ghost use Rattle.model.specs.Request.{Request as Model};
-ghost use Rattle.syntax.specs.View.{parser_of, store_of};
+ghost use Rattle.syntax.specs.View.{parser_of};
 ghost use Rattle.wire.specs.Asked.{Parses};
 ghost use Rattle.settling.specs.Refusing.{Settled};
 
@@ -20,8 +20,8 @@ use wire::Parse;
 const LONGEST: usize = 65_536;
 
 // Is there such a state, and are the headers' contents and the input right?
-fn fits(checked: &Checked, headers: &Vec<Vec<u8>>, start: u16, input: &[u8]) -> bool
-    ensures { result ≡ parse_fits (parser_of checked.now.parser) (store_of headers.now) start input.now }
+fn fits(checked: &Checked, headers: &[Vec<u8>], start: u16, input: &[u8]) -> bool
+    ensures { result ≡ parse_fits (parser_of checked.now.parser) (map vec_items headers.now) start input.now }
 {
     let parser = &checked.parser;
     (start as usize) < parser.states.len()

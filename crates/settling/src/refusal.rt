@@ -16,7 +16,7 @@ pub enum Refusal {
 }
 
 impl Refusal {
-    // By which number it is told.
+    // By which number it is told. A method, since the number is what users are told, not a form of the refusal.
     pub fn number(self) -> u8
         ensures { result ≡ number_of self }
     {

@@ -44,6 +44,7 @@ pub fn answer_at<S: Stage>(
 ) -> Result<Answer, AllocError>
     ensures { IfOk result (λ a. Promised S.can (lent (length room.old) (asked_from request.now)) (answer_of room.new a)) }
 {
+    // each end by its own arm: `or_else` with a closure says it no shorter
     match settle::<S>(heap, request, room) {
         Ok(answer) => Ok(answer),
         Err(Halt::Refused(refusal)) => Ok(Answer::from(refusal)),

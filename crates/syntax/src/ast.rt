@@ -1,5 +1,8 @@
 // The parts of a parser. What each type means in the model is specs/View.antt.
 
+// At most 16 expressions in one another are kept and right: 15 below the first.
+pub const DEPTH: u8 = 15;
+
 // Bits that are copied: of a header, of a constant (one bit to a byte), from one bit of an
 // expression up to and with a later one, or of two expressions joined.
 #[derive(PartialEq, Eq, Debug, Drop)]

@@ -4,5 +4,5 @@
 mod ast;
 mod checked;
 
-pub use ast::{Case, Expr, Op, Parser, Pattern, State, Target};
+pub use ast::{Case, DEPTH, Expr, Op, Parser, Pattern, State, Target};
 pub use checked::Checked;

@@ -1,5 +1,5 @@
 -- Reading a list: what was read so far, and what is left.
-use Rattle.std.proofs.Common.{◌≡◌, ℕ, suc, ◌+◌, ◌-◌, ◌<◌, ◌≤◌, Bool, false, List, [], ◌∷◌, ◌++◌, map, length, Some, None, inl, inr, vec_items, Option, Vec, sym, refl, ap, ap₂, ◌∙◌, subst, arith}
+use Rattle.std.proofs.Common.{◌≡◌, ℕ, suc, ◌+◌, ◌-◌, ◌<◌, ◌≤◌, Bool, false, List, [], ◌∷◌, ◌++◌, map, length, Some, None, inl, inr, vec_items, Option, Vec, Result, IsErrAnd, MatchResult, sym, refl, ap, ap₂, ◌∙◌, subst, arith}
 use Rattle.std.specs.List.{AllZip}
 use Rattle.std.specs.Option.{option_map}
 use Rattle.std.specs.declared.alloc.Global.{Global}
@@ -8,7 +8,7 @@ use Rattle.std.proofs.lemmas.Bool.{and_left, and_right}
 use Rattle.model.specs.Refusal.{every}
 use Rattle.format.specs.Read.{Read, got, failed, bind, read_number, read_many, read_counted}
 use Rattle.scan.specs.Reads.{Place, left, Took, Stopped, Failed, ceased, no_memory, Is, Within}
-use Rattle.scan.proofs.Chain.{then_took, then_stopped}
+use Rattle.scan.proofs.Chain.{then_took, then_stopped, exit}
 use Rattle.scan.specs.declared.fault.Fault.{Fault}
 use Rattle.wire.specs.Kept.{Lacks, EachKept, appended}
 
@@ -19,13 +19,6 @@ pub record Listing {Y Z : Type 0} (read : List ℕ → Read Y) (means : Z → Li
   pub prefix : List Y
   pub same : whole ≡ bind (read_many read to_come (left now)) (λ ys r. got (prefix ++ ys) r)
   pub meant : means z prefix
-
-bind_got : {Y : Type 0} (s : Read (List Y)) → s ≡ bind s (λ ys r. got ([] ++ ys) r)
-bind_got (got x r) = refl
-bind_got (failed r) = refl
-
-pub listing_none : {Y Z : Type 0} (read : List ℕ → Read Y) (means : Z → List Y → Type 0) (old : Place) (n : ℕ) (z : Z) → old.at ≤ length old.bytes → means z [] → Listing read means old old (read_many read n (left old)) n z
-listing_none read means old n z l m = record { within = l; stays = refl; prefix = []; same = bind_got (read_many read n (left old)); meant = m }
 
 module _ {Y Z : Type 0} {read : List ℕ → Read Y} {means : Z → List Y → Type 0} {old now : Place} {whole : Read (List Y)} {to_come : ℕ} {z : Z} (so_far : Listing read means old now whole to_come z) where
   -- by the next element
@@ -115,6 +108,10 @@ module _ {X Y : Type 0} (f : X → Y) (sh : Y → Bool) where
   kept_within (Some v) ys e = each_is f (vec_items v) ys e
   kept_within None ys l = lacks_shallow ys l
 
+-- one fewer is to come
+pub one_fewer : (n i : ℕ) → i < n → n - i ≡ suc (n - (i + 1))
+one_fewer n i l = omega arith
+
 -- how many, and then these
 module _ {Y : Type 0} (read : List ℕ → Read Y) {old mid : Place} {n : ℕ} (t : Took (read_number 2 (left old)) (Is (λ m. m)) old n mid) where
   pub counted_took : {Z : Type 0} {means : Z → List Y → Type 0} {z : Z} {new : Place} → Took (read_many read n (left mid)) means mid z new → Took (read_counted read (left old)) means old z new
@@ -123,6 +120,8 @@ module _ {Y : Type 0} (read : List ℕ → Read Y) {old mid : Place} {n : ℕ} (
   pub counted_stopped : {e : Fault} {new : Place} → Stopped (read_many read n (left mid)) mid new e → Stopped (read_counted read (left old)) old new e
   counted_stopped {e} {new} u = then_stopped (λ m r. read_many read m r) t (subst (λ m. Stopped (read_many read m (left mid)) mid new e) t.meant u)
 
--- one fewer is to come
-pub one_fewer : (n i : ℕ) → i < n → n - i ≡ suc (n - (i + 1))
-one_fewer n i l = omega arith
+  -- one of them is not read, and `?` hands on why
+  pub one_stopped : {Z W : Type 0} {means : Z → List Y → Type 0} {z : Z} {now new : Place} {i : ℕ} {e : Fault} (P : W → Type 0) (res : Result W Fault) → IsErrAnd res (λ y. y ≡ e)
+      → Listing read means mid now (read_many read n (left mid)) (n - i) z → i < n → Stopped (read (left now)) now new e
+      → MatchResult res P (λ y. Stopped (read_counted read (left old)) old new y)
+  one_stopped {i = i} P res by so_far l u = exit P res by (counted_stopped (listing_stopped so_far _ (one_fewer n i l) u))

@@ -53,7 +53,7 @@ long bytes l =
 -- what the first 2^20 bytes say of all
 pub cut_failed : (q : M.Request) (e : Fault) → Unasked q e → Unasked (too_long q) e
 cut_failed q (Garbled k) u = ap too_long u
-cut_failed q Memory u = tt
+cut_failed q (Memory e) u = tt
 
 pub cut_whole : (bytes : List ℕ) → 1048576 < length bytes → asked_from bytes ≡ too_long (whole (length (take 1048576 bytes)) (read_request (take 1048576 bytes)))
 cut_whole bytes l = long bytes l ∙ ap (λ n. too_long (whole n (read_request (take 1048576 bytes)))) (sym (length-take-le 1048576 bytes (omega arith)))

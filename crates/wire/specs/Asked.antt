@@ -36,4 +36,4 @@ Stands (Compare r) q = Compares r q
 -- bytes that ask nothing; want of memory says nothing of them
 abbrev pub Unasked : M.Request → Fault → Type 0
 Unasked q (Garbled k) = q ≡ garbled k
-Unasked q Memory = Unit {0}
+Unasked q (Memory e) = Unit {0}

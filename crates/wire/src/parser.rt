@@ -11,10 +11,7 @@ ghost use Rattle.wire.specs.Kept.{shallow_parser};
 use crate::list::{FromBytes, read_kept, read_list};
 use scan::{Fault, Reader};
 use std::alloc::Global;
-use syntax::{Case, Expr, Op, Parser, Pattern, State, Target};
-
-// At most 16 expressions in one another are kept: 15 below the first.
-const DEPTH: u8 = 15;
+use syntax::{Case, DEPTH, Expr, Op, Parser, Pattern, State, Target};
 
 // How many bits a header has.
 impl FromBytes for u16 {

@@ -1,12 +1,10 @@
-use Rattle.scan.proofs.Chain.{exit}
-use Rattle.wire.proofs.Lists.{listing_more, listing_stopped, kept_more, counted_stopped, one_fewer}
+use Rattle.wire.proofs.Lists.{listing_more, kept_more, one_stopped, one_fewer}
 use Rattle.wire.proofs.list.read_kept.Goals as goal
 
 pub returns-in_err-read : goal.returns-in_err-read
 returns-in_err-read g c =
     let x = c.from_residual-in_err-read in
-    exit _ x.result x.ensures.1
-    (counted_stopped g.T.FromBytes.read_by c.in_ok-count.ensures.reads (listing_stopped c.loop.invariant _ (one_fewer _ _ c.loop-test.true) c.in_err-read.ensures))
+    one_stopped g.T.FromBytes.read_by c.in_ok-count.ensures.reads _ x.result x.ensures.1 c.loop.invariant c.loop-test.true c.in_err-read.ensures
 
 pub loop-preserved : goal.loop-preserved
 loop-preserved g c =
