@@ -53,7 +53,6 @@ fn shown(
 
 /// Whether the goal follows from the premises, by the lemmas and the hints that were written.
 pub fn confirm(search: &mut Search, value: &mut [u64], trail: &mut [u64], work: &mut Work) -> bool
-    requires { search.old.given ≤ search.old.count }
     ensures sound { IsTrue result → Follows (asked search.old) (wanted search.old) }
     ensures checked { Checked search.old search.new }
     ensures less { work.new.left ≤ work.old.left }
