@@ -35,13 +35,11 @@ fn satisfied(value: &[u64], clause: &[u64]) -> bool
 fn all_hold(premises: &Premises, value: &[u64]) -> bool
     ensures { IsTrue result → All (says value.now) (clauses_of premises.now) }
 {
-    for s in premises.starts {
-        match premises.clause(*s as usize) {
-            Some(clause) if satisfied(value, clause) => {}
-            _ => return false,
-        }
-    }
-    true
+    premises.starts.iter().all(|s| {
+        premises
+            .clause(*s as usize)
+            .is_some_and(|clause| satisfied(value, clause))
+    })
 }
 
 /// Whether the bits satisfy the premises and not the goal. Not charged: `survey` was, for the same way.

@@ -13,7 +13,7 @@ use clauses::known::Known;
 use clauses::literal::Literal;
 use clauses::premises::Premises;
 
-// A bit that the conflict rests on is marked by 4 more: all bits are forgotten after it.
+// In lent room, so a number: a bit that the conflict rests on is marked by 4 more, as all bits are forgotten after it.
 const MARK: u64 = 4;
 
 // Marks the bits of premise c, if it is there.

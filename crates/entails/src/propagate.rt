@@ -16,6 +16,7 @@ use clauses::stop::Stop;
 /// What is known while bits are tried, and why each bit on the trail is.
 #[derive(Drop)]
 pub struct Tries<'a> {
+    // Two rows of the same length, since each is lent.
     pub known: Known<'a>,
     pub reason: Stack<'a>,
 }
