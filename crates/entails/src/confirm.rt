@@ -58,12 +58,7 @@ pub fn confirm(search: &mut Search, value: &mut [u64], trail: &mut [u64], work: 
     ensures less { work.new.left ≤ work.old.left }
 {
     value.fill(UNKNOWN);
-    let mut known = Known {
-        rep: &[],
-        value,
-        trail,
-        depth: 0,
-    };
+    let mut known = Known::new(&[], value, trail, 0);
     let (at, given, goal) = (search.at, search.given, search.goal);
     shown(
         &search.numbers,

@@ -59,7 +59,7 @@ impl Tries<'_> {
         let mut tried = false;
         for d in (0..self.reason.len).rev() {
             match self.rests_on(d) {
-                None => self.reason.room[d] = Reason::Idle.into(),
+                None => self.reason.set(d, Reason::Idle.into()),
                 Some(Reason::Tried) => tried = true,
                 Some(Reason::Forced(c)) => mark(premises, &mut self.known, c, work)?,
                 Some(Reason::Denied | Reason::Idle) => {}
@@ -78,7 +78,10 @@ impl Tries<'_> {
         let trail = self.known.assumed();
         let reasons = trail.iter().zip(self.reason.as_slice());
         let literals = reasons.filter_map(|(p, why)| match Reason::from(*why) {
-            Reason::Denied | Reason::Tried => Some(*p << 1 | *value.get(*p as usize)? % 2),
+            Reason::Denied | Reason::Tried => Some(u64::from(Literal {
+                position: *p as usize,
+                negated: *value.get(*p as usize)? % 2 == 1,
+            })),
             _ => None,
         });
         search.push_list(literals)
