@@ -4,6 +4,9 @@ ghost use Rattle.clauses.specs.Clauses.{Stands, clause_at};
 
 use crate::lists::list_at;
 
+/// As `most`, where no clause is too long.
+pub const NO_LIMIT: u64 = u64::MAX;
+
 /// Clauses in lent numbers. One of `most` literals or more is not looked at; where `most` is 0, none is.
 #[derive(Clone, Copy)]
 pub struct Premises<'a> {

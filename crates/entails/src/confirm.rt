@@ -11,7 +11,7 @@ use clauses::hints::follows_by;
 use clauses::known::Known;
 use clauses::lemmas::add_lemmas;
 use clauses::lists::Lists;
-use clauses::premises::Premises;
+use clauses::premises::{NO_LIMIT, Premises};
 use clauses::stack::Stack;
 use clauses::stop::Stop;
 
@@ -34,12 +34,12 @@ fn shown(
     let numbers = &**numbers;
     let mut lists = Lists { numbers, at };
     let mut starts = Stack::new(starts, count);
-    match add_lemmas(&mut lists, &mut starts, u64::MAX, known, work) {
+    match add_lemmas(&mut lists, &mut starts, NO_LIMIT, known, work) {
         Ok(()) => {
             let premises = Premises {
                 numbers,
                 starts: starts.as_slice(),
-                most: u64::MAX,
+                most: NO_LIMIT,
             };
             matches!(
                 follows_by(&premises, known, goal, &mut lists, work),

@@ -57,6 +57,7 @@ impl Tries<'_> {
     {
         mark(premises, &mut self.known, premise, work)?;
         let mut tried = false;
+        // By depth, down both rows, since one is written.
         for d in (0..self.reason.len).rev() {
             match self.rests_on(d) {
                 None => self.reason.set(d, Reason::Idle.into()),

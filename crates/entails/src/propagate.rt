@@ -16,8 +16,8 @@ use clauses::stop::Stop;
 /// What is known while bits are tried, and why each bit on the trail is.
 #[derive(Drop)]
 pub struct Tries<'a> {
-    // Two rows of the same length, since each is lent.
     pub known: Known<'a>,
+    // Beside the trail, by depth: room is lent as plain numbers, so that they are two rows.
     pub reason: Stack<'a>,
 }
 

@@ -4,7 +4,7 @@ ghost use Rattle.std.specs.Iterator.{IsFinite};
 ghost use Rattle.entails.specs.Layouts.{Below};
 
 use crate::Lack;
-use clauses::premises::Premises;
+use clauses::premises::{NO_LIMIT, Premises};
 
 /// The numbers in which all stands, and the starts of premises and lemmas. Flat, not two stacks: of lent room in a struct in a struct one would not know what it
 /// holds afterwards.
@@ -38,7 +38,7 @@ impl<'a> Search<'a> {
         Premises {
             numbers: self.numbers,
             starts: &self.starts[..n],
-            most: u64::MAX,
+            most: NO_LIMIT,
         }
     }
 
