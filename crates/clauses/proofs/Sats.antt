@@ -34,9 +34,6 @@ module _ (v : ℕ → Bool) (ls : List ℕ) (l : ℕ) where
       (λ p. ⊎_elim (λ holds. inl (sat_last holds)) (λ is. inr (then p is)) (holds_or v l))
       had
 
-pub sat_none : (v : ℕ → Bool) → Sat v [] → ⊥
-sat_none v s = omega (arith, s.1)
-
 pub sat_take : (v : ℕ → Bool) (n : ℕ) (ls : List ℕ) → Sat v (take n ls) → Sat v ls
 sat_take v n ls s =
     let lt : s.0 < min n (length ls) = omega (arith, s.1, length-take n ls) in

@@ -1,7 +1,7 @@
 // What is known of a position's bit, by its representative and by what was assumed.
 ghost use Rattle.clauses.specs.Known.{Resolved};
 
-/// In `value`, of a bit that is not known.
+/// In `value`, of a bit that is not known: lent room is numbers.
 pub const UNKNOWN: u64 = 2;
 
 /// What is known of a position.

@@ -20,7 +20,7 @@ pub struct Known<'a> {
 }
 
 impl<'a> Known<'a> {
-    ghost use Rattle.std.specs.Prelude.{◌≡◌, ℕ, ◌<◌, ◌≤◌, Bool, ◌⊎◌, List, length, min, take, slice_index, IsErrOf};
+    ghost use Rattle.std.specs.Prelude.{◌≡◌, ℕ, ◌<◌, ◌≤◌, Bool, ◌⊎◌, List, length, min, take, replicate, slice_index, IsErrOf};
     ghost use Rattle.clauses.specs.Clauses.{bit, Sat};
     ghost use Rattle.clauses.specs.Known.{Allows, Resolved, Kept, Undone};
     ghost use Rattle.clauses.specs.Steps.{After};
@@ -107,12 +107,24 @@ impl<'a> Known<'a> {
     pub fn undo(&mut self, base: usize)
         ensures { Undone self.old base self.new }
     {
-        while self.depth > base {
-            self.depth -= 1;
-            let q = self.trail[self.depth];
-            if q < self.value.len() as u64 {
-                self.value[q as usize] = UNKNOWN;
+        for d in (base..self.depth).rev() {
+            let q = self.trail[d] as usize;
+            if q < self.value.len() {
+                self.value[q] = UNKNOWN;
             }
         }
+        self.depth = self.depth.min(base);
+    }
+
+    /// All bits are unknown from now on, and none was assumed.
+    pub fn forget(&mut self)
+        ensures rep { self.new.rep ≡ self.old.rep }
+        ensures value { self.new.value.ghost_name ≡ self.old.value.ghost_name }
+        ensures trail { self.new.trail ≡ self.old.trail }
+        ensures bits { self.new.value.now ≡ replicate (length self.old.value.now) 2 }
+        ensures depth { self.new.depth ≡ 0 }
+    {
+        self.value.fill(UNKNOWN);
+        self.depth = 0;
     }
 }

@@ -36,7 +36,7 @@ fn add_lemma(
 ) -> Result<(), Stop>
     ensures { Grown most lists.old starts.old known.old work.old.left lists.new starts.new known.new work.new.left result }
 {
-    // there is no room for one more
+    // There is no room for one more.
     if starts.len >= starts.room.len() {
         return Err(Stop::Refused);
     }

@@ -10,7 +10,7 @@ pub fn list_at(numbers: &[u64], s: usize) -> Option<&[u64]>
     numbers[s + 1..].get(..n as usize)
 }
 
-/// Lists that stand one after the other, read from `at` on.
+/// Lists that stand one after the other, read from `at` on. All numbers are kept, and no rest, since a lemma is known by where it stands.
 #[derive(Clone, Copy)]
 pub struct Lists<'a> {
     pub numbers: &'a [u64],

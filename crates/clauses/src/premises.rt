@@ -4,7 +4,10 @@ ghost use Rattle.clauses.specs.Clauses.{Stands, clause_at};
 
 use crate::lists::list_at;
 
-/// Clauses in lent numbers. One of `most` literals or more is not looked at.
+/// As `most`, where no clause is too long.
+pub const NO_LIMIT: u64 = u64::MAX;
+
+/// Clauses in lent numbers. One of `most` literals or more is not looked at; where `most` is 0, none is.
 #[derive(Clone, Copy)]
 pub struct Premises<'a> {
     pub numbers: &'a [u64],
@@ -18,6 +21,7 @@ impl<'a> Premises<'a> {
         ensures { MatchOption result (Stands self.now.numbers.now s → length (clause_at self.now.numbers.now s) < self.now.most → ⊥) (λ clause. (Stands self.now.numbers.now s) × ((clause.now ≡ clause_at self.now.numbers.now s) × (length clause.now < self.now.most))) }
     {
         let clause = list_at(self.numbers, s)?;
+        // Not `filter`: what it keeps was not proved.
         if (clause.len() as u64) < self.most {
             Some(clause)
         } else {

@@ -43,4 +43,22 @@ impl<'a> Stack<'a> {
         self.len += 1;
         Ok(())
     }
+
+    /// The number at d is x from now on.
+    pub fn set(&mut self, d: usize, x: u64)
+        requires { d < self.old.len }
+        ensures same { self.new.room.ghost_name ≡ self.old.room.ghost_name }
+        ensures room { self.new.room.now ≡ slice_set self.old.room.now d x }
+        ensures len { self.new.len ≡ self.old.len }
+    {
+        self.room[d] = x;
+    }
+
+    /// Takes all of them off.
+    pub fn clear(&mut self)
+        ensures room { self.new.room ≡ self.old.room }
+        ensures len { self.new.len ≡ 0 }
+    {
+        self.len = 0;
+    }
 }

@@ -1,7 +1,7 @@
 -- The valuation that a list of bits says.
-use Rattle.std.proofs.Common.{◌≡◌, ◌↔◌, ℕ, ◌+◌, ◌/◌, ◌%◌, ◌<◌, Bool, true, false, not, List, [], map, length, get_or, replicate, IsTrue, refl, sym, ap, ◌∙◌, subst, arith}
+use Rattle.std.proofs.Common.{◌≡◌, ◌↔◌, ℕ, ◌+◌, ◌/◌, ◌%◌, ◌<◌, Bool, true, false, not, List, [], map, length, get_or, IsTrue, refl, sym, ap, ◌∙◌, subst, arith}
 use mathlib.Core.Bool.{beq}
-use Rattle.std.proofs.lemmas.List.{get_or-map, get_or-replicate, length-map, length-replicate}
+use Rattle.std.proofs.lemmas.List.{get_or-map, length-map}
 use Rattle.clauses.specs.Clauses.{bit, Holds, Sat, All, clause_at, clauses_at}
 use Rattle.clauses.specs.Known.{Fits}
 
@@ -25,11 +25,6 @@ fits_none v value none = record {
   equal = λ p l. absurd (omega arith);
   known = λ p l small. absurd (omega (arith, none p l));
 }
-
-pub fits_cleared : (v : ℕ → Bool) (value : List ℕ) (n : ℕ) → value ≡ replicate n 2 → Fits v [] value
-fits_cleared v value n is = fits_none v value (λ k l.
-    let lt : k < n = omega (arith, ap length is, length-replicate {A = ℕ} n 2) in
-    ap (λ xs. get_or xs k 0) is ∙ get_or-replicate {A = ℕ} n k 2 0 lt)
 
 -- a bit that differs from a literal's sign
 apart : (b n : Bool) → IsTrue (not (beq b n)) ↔ (bit b + bit n ≡ 1)

@@ -11,7 +11,7 @@ use clauses::hints::follows_by;
 use clauses::known::Known;
 use clauses::lemmas::add_lemmas;
 use clauses::lists::Lists;
-use clauses::premises::Premises;
+use clauses::premises::{NO_LIMIT, Premises};
 use clauses::stack::Stack;
 use clauses::stop::Stop;
 
@@ -34,12 +34,12 @@ fn shown(
     let numbers = &**numbers;
     let mut lists = Lists { numbers, at };
     let mut starts = Stack::new(starts, count);
-    match add_lemmas(&mut lists, &mut starts, u64::MAX, known, work) {
+    match add_lemmas(&mut lists, &mut starts, NO_LIMIT, known, work) {
         Ok(()) => {
             let premises = Premises {
                 numbers,
                 starts: starts.as_slice(),
-                most: u64::MAX,
+                most: NO_LIMIT,
             };
             matches!(
                 follows_by(&premises, known, goal, &mut lists, work),
@@ -53,18 +53,12 @@ fn shown(
 
 /// Whether the goal follows from the premises, by the lemmas and the hints that were written.
 pub fn confirm(search: &mut Search, value: &mut [u64], trail: &mut [u64], work: &mut Work) -> bool
-    requires { search.old.given ≤ search.old.count }
     ensures sound { IsTrue result → Follows (asked search.old) (wanted search.old) }
     ensures checked { Checked search.old search.new }
     ensures less { work.new.left ≤ work.old.left }
 {
     value.fill(UNKNOWN);
-    let mut known = Known {
-        rep: &[],
-        value,
-        trail,
-        depth: 0,
-    };
+    let mut known = Known::new(&[], value, trail, 0);
     let (at, given, goal) = (search.at, search.given, search.goal);
     shown(
         &search.numbers,

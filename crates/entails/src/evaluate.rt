@@ -3,7 +3,6 @@ ghost use Rattle.std.specs.Prelude.{◌≡◌, ◌≤◌, ◌↔◌, IsTrue};
 ghost use Rattle.clauses.specs.Clauses.{Holds, Sat, All};
 ghost use Rattle.clauses.specs.Steps.{clauses_of};
 ghost use Rattle.entails.specs.Answers.{says, Refuted};
-ghost use Rattle.entails.specs.Layouts.{Below};
 ghost use Rattle.entails.specs.Searches.{asked, wanted};
 
 use crate::Room;
@@ -36,22 +35,18 @@ fn satisfied(value: &[u64], clause: &[u64]) -> bool
 fn all_hold(premises: &Premises, value: &[u64]) -> bool
     ensures { IsTrue result → All (says value.now) (clauses_of premises.now) }
 {
-    for s in premises.starts {
-        match premises.clause(*s as usize) {
-            Some(clause) if satisfied(value, clause) => {}
-            _ => return false,
-        }
-    }
-    true
+    premises.starts.iter().all(|s| {
+        premises
+            .clause(*s as usize)
+            .is_some_and(|clause| satisfied(value, clause))
+    })
 }
 
 /// Whether the bits satisfy the premises and not the goal. Not charged: `survey` was, for the same way.
 pub fn refutes(search: &Search, room: &Room) -> bool
-    requires stands { Below search.now.numbers.now search.now.used search.now.goal }
-    requires given { search.now.given ≤ search.now.count }
     ensures { IsTrue result → Refuted (asked search.now) (wanted search.now) (says room.now.value.now) }
 {
-    let premises = search.premises();
+    let premises = search.first(search.given);
     let goal = list_at(premises.numbers, search.goal).unwrap();
     all_hold(&premises, room.value) && !satisfied(room.value, goal)
 }

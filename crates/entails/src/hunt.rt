@@ -1,7 +1,6 @@
 // Lemmas are learned until the goal is shown, or bits are found. Nothing of this is believed: what it owes is that it ends, and leaves what it was given.
 ghost use Rattle.std.specs.Prelude.{◌≡◌, ℕ, ◌<◌, ◌≤◌, length, IfErr};
 ghost use Rattle.entails.specs.Searches.{Learned, ShortOf};
-ghost use Rattle.entails.specs.Layouts.{Below};
 
 use crate::Lack;
 use crate::learn::learn;
@@ -19,30 +18,25 @@ pub enum Found {
 
 // One attempt, and what is learned of it: one more lemma where nothing is found.
 fn turn(search: &mut Search, tries: &mut Tries, work: &mut Work) -> Result<Option<Found>, Lack>
-    requires { Below search.old.numbers.now search.old.used search.old.goal }
     ensures learned { Learned search.old search.new }
     ensures less { work.new.left ≤ work.old.left }
     ensures lack { IfErr result (λ lack. ShortOf search.new work.new.left lack) }
 {
     work.spend(tries.known.value.len() as u64)?;
-    let goal = search.goal;
-    let Ok(clash) = tries.attempt(&search.all(), goal, work) else {
+    let (count, goal) = (search.count, search.goal);
+    let Ok(clash) = tries.attempt(&search.first(count), goal, work) else {
+        // Room for trail and reasons was asked for before, so only work can be short.
         work.left = 0;
         return Err(Lack::Work);
     };
     let Some(premise) = clash else {
         return Ok(Some(Found::Model));
     };
-    if learn(search, tries, premise, work)? {
-        Ok(None)
-    } else {
-        Ok(Some(Found::Shown))
-    }
+    learn(search, tries, premise, work)
 }
 
 // Turns, while there is work.
 fn turns(search: &mut Search, tries: &mut Tries, work: &mut Work) -> Result<Found, Lack>
-    requires { Below search.old.numbers.now search.old.used search.old.goal }
     ensures learned { Learned search.old search.new }
     ensures less { work.new.left ≤ work.old.left }
     ensures lack { IfErr result (λ lack. ShortOf search.new work.new.left lack) }
@@ -63,13 +57,12 @@ pub fn hunt(
     reason: &mut [u64],
     work: &mut Work,
 ) -> Result<Found, Lack>
-    requires stands { Below search.old.numbers.now search.old.used search.old.goal }
     requires begins { (search.old.at ≡ search.old.used) × (search.old.given ≡ search.old.count) }
     ensures learned { Learned search.old search.new }
     ensures less { work.new.left ≤ work.old.left }
     ensures lack { IfErr result (λ lack. ShortOf search.new work.new.left lack) }
 {
-    search.push(0).map_err(|_| Lack::Numbers)?;
+    search.push(0)?;
     let found = turns(search, &mut Tries::new(value, trail, reason), work);
     search.numbers[search.at] = (search.count - search.given) as u64;
     found

@@ -3,6 +3,7 @@ ghost use Rattle.std.specs.Prelude.{◌≡◌, ℕ, ◌≤◌, length, OnErr, If
 ghost use Rattle.entails.specs.Searches.{Learned, ShortOf};
 
 use crate::Lack;
+use crate::hunt::Found;
 use crate::propagate::Tries;
 use crate::reason::Reason;
 use crate::search::Search;
@@ -11,9 +12,8 @@ use clauses::bits::UNKNOWN;
 use clauses::known::Known;
 use clauses::literal::Literal;
 use clauses::premises::Premises;
-use clauses::stack::Full;
 
-// A bit that the conflict rests on is marked by 4 more: all bits are forgotten after it.
+// In lent room, so a number: a bit that the conflict rests on is marked by 4 more, as all bits are forgotten after it.
 const MARK: u64 = 4;
 
 // Marks the bits of premise c, if it is there.
@@ -57,9 +57,10 @@ impl Tries<'_> {
     {
         mark(premises, &mut self.known, premise, work)?;
         let mut tried = false;
+        // By depth, down both rows, since one is written.
         for d in (0..self.reason.len).rev() {
             match self.rests_on(d) {
-                None => self.reason.room[d] = Reason::Idle.into(),
+                None => self.reason.set(d, Reason::Idle.into()),
                 Some(Reason::Tried) => tried = true,
                 Some(Reason::Forced(c)) => mark(premises, &mut self.known, c, work)?,
                 Some(Reason::Denied | Reason::Idle) => {}
@@ -69,25 +70,28 @@ impl Tries<'_> {
     }
 
     // Of the bits that were tried and denied, one is not so.
-    fn write_clause(&self, search: &mut Search) -> Result<(), Full>
+    fn write_clause(&self, search: &mut Search) -> Result<(), Lack>
         ensures learned { Learned search.old search.new }
-        ensures full { OnErr result (search.new.used ≡ length search.new.numbers.now) }
+        ensures full { IfErr result (λ lack. (lack ≡ Lack.Numbers) × (search.new.used ≡ length search.new.numbers.now)) }
         ensures lemmas { search.new.count ≡ search.old.count }
     {
         let value = &*self.known.value;
         let trail = self.known.assumed();
         let reasons = trail.iter().zip(self.reason.as_slice());
         let literals = reasons.filter_map(|(p, why)| match Reason::from(*why) {
-            Reason::Denied | Reason::Tried => Some(*p << 1 | *value.get(*p as usize)? % 2),
+            Reason::Denied | Reason::Tried => Some(u64::from(Literal {
+                position: *p as usize,
+                negated: *value.get(*p as usize)? % 2 == 1,
+            })),
             _ => None,
         });
         search.push_list(literals)
     }
 
     // The premises that forced what is on the trail, and the one that is false, as hints.
-    fn write_hints(&self, search: &mut Search, premise: usize) -> Result<(), Full>
+    fn write_hints(&self, search: &mut Search, premise: usize) -> Result<(), Lack>
         ensures learned { Learned search.old search.new }
-        ensures full { OnErr result (search.new.used ≡ length search.new.numbers.now) }
+        ensures full { IfErr result (λ lack. (lack ≡ Lack.Numbers) × (search.new.used ≡ length search.new.numbers.now)) }
         ensures lemmas { search.new.count ≡ search.old.count }
     {
         let reasons = self.reason.as_slice();
@@ -99,31 +103,28 @@ impl Tries<'_> {
     }
 }
 
-/// Writes the lemma of a conflict, or, if it rests on nothing that was tried, the goal's hints: whether it was a lemma.
+/// Writes the lemma of a conflict, or, if it rests on nothing that was tried, the goal's hints, by which it is shown.
 pub fn learn(
     search: &mut Search,
     tries: &mut Tries,
     premise: usize,
     work: &mut Work,
-) -> Result<bool, Lack>
+) -> Result<Option<Found>, Lack>
     ensures learned { Learned search.old search.new }
     ensures less { work.new.left ≤ work.old.left }
     ensures lack { IfErr result (λ lack. ShortOf search.new work.new.left lack) }
 {
-    if !tries.trace(&search.all(), premise, work)? {
-        tries
-            .write_hints(search, premise)
-            .map_err(|_| Lack::Numbers)?;
-        return Ok(false);
+    let count = search.count;
+    if !tries.trace(&search.first(count), premise, work)? {
+        tries.write_hints(search, premise)?;
+        return Ok(Some(Found::Shown));
     }
-    if search.count == search.starts.len() {
+    if count == search.starts.len() {
         return Err(Lack::Starts);
     }
     let at = search.used;
-    tries.write_clause(search).map_err(|_| Lack::Numbers)?;
-    tries
-        .write_hints(search, premise)
-        .map_err(|_| Lack::Numbers)?;
+    tries.write_clause(search)?;
+    tries.write_hints(search, premise)?;
     search.add(at);
-    Ok(true)
+    Ok(None)
 }

@@ -14,7 +14,7 @@ use crate::confirm::confirm;
 use crate::evaluate::refutes;
 use crate::hunt::{Found, hunt};
 use crate::search::Search;
-use crate::survey::{Unfit, survey};
+use crate::survey::survey;
 use budget::{Exhausted, Work};
 
 mod confirm;
@@ -47,6 +47,7 @@ impl From<Exhausted> for Lack {
     }
 }
 
+/// How it ends. Yes and no are both answers, no failures.
 #[derive(Clone, Copy, PartialEq, Eq, Debug)]
 pub enum Outcome {
     Yes,
@@ -55,7 +56,7 @@ pub enum Outcome {
     Malformed,
 }
 
-/// Whether the clause at `goal` follows from those at starts[..count]. All of these stand below `used`; what is behind is room.
+/// Whether the clause at `goal` follows from those at starts[..count]. All of these stand below `used`; what is behind is lent room, for lemmas.
 #[derive(Drop)]
 pub struct Question<'a> {
     pub numbers: &'a mut [u64],
@@ -73,6 +74,7 @@ pub struct Room<'a> {
     pub reason: &'a mut [u64],
 }
 
+/// An outcome, with what is left of work and room.
 #[derive(Clone, Copy, PartialEq, Eq, Debug)]
 pub struct Answer {
     pub outcome: Outcome,
@@ -90,13 +92,8 @@ pub fn follows(question: &mut Question, room: &mut Room, work: u64) -> Answer
 {
     let mut work = Work { left: work };
     if let Err(unfit) = survey(question, room.value.len(), &mut work) {
-        let outcome = match unfit {
-            Unfit::Malformed => Outcome::Malformed,
-            Unfit::Wide => Outcome::Exhausted(Lack::Value),
-            Unfit::Worn => Outcome::Exhausted(Lack::Work),
-        };
         return Answer {
-            outcome,
+            outcome: Outcome::from(unfit),
             used: question.used,
             count: question.count,
             left: work.left,

@@ -4,7 +4,7 @@ ghost use Rattle.clauses.specs.Clauses.{Stands};
 
 use crate::reason::Reason;
 use budget::{Exhausted, Work};
-use clauses::bits::{Bit, UNKNOWN};
+use clauses::bits::Bit;
 use clauses::hints::hint;
 use clauses::known::Known;
 use clauses::lists::list_at;
@@ -17,25 +17,14 @@ use clauses::stop::Stop;
 #[derive(Drop)]
 pub struct Tries<'a> {
     pub known: Known<'a>,
+    // Beside the trail, by depth: room is lent as plain numbers, so that they are two rows.
     pub reason: Stack<'a>,
-}
-
-// All bits are unknown from now on.
-fn forget(known: &mut Known) {
-    known.value.fill(UNKNOWN);
-    known.depth = 0;
 }
 
 impl<'a> Tries<'a> {
     pub fn new(value: &'a mut [u64], trail: &'a mut [u64], reason: &'a mut [u64]) -> Tries<'a> {
-        let known = Known {
-            rep: &[],
-            value,
-            trail,
-            depth: 0,
-        };
         Tries {
-            known,
+            known: Known::new(&[], value, trail, 0),
             reason: Stack::new(reason, 0),
         }
     }
@@ -126,8 +115,8 @@ impl<'a> Tries<'a> {
         requires { (Stands premises.now.numbers.now goal) × (0 < premises.now.most) }
         ensures { work.new.left ≤ work.old.left }
     {
-        forget(&mut self.known);
-        self.reason.len = 0;
+        self.known.forget();
+        self.reason.clear();
         let denied = self.known.deny(list_at(premises.numbers, goal).unwrap());
         self.note(Reason::Denied);
         match denied {

@@ -1,9 +1,10 @@
 // A question while an answer is looked for: lemmas are written behind what stands.
-ghost use Rattle.std.specs.Prelude.{◌≡◌, ℕ, ◌+◌, ◌<◌, ◌≤◌, length, take, OnOk, OnErr};
+ghost use Rattle.std.specs.Prelude.{◌≡◌, ℕ, ◌+◌, ◌<◌, ◌≤◌, length, take, OnOk, IfErr};
 ghost use Rattle.std.specs.Iterator.{IsFinite};
+ghost use Rattle.entails.specs.Layouts.{Below};
 
-use clauses::premises::Premises;
-use clauses::stack::Full;
+use crate::Lack;
+use clauses::premises::{NO_LIMIT, Premises};
 
 /// The numbers in which all stands, and the starts of premises and lemmas. Flat, not two stacks: of lent room in a struct in a struct one would not know what it
 /// holds afterwards.
@@ -20,47 +21,36 @@ pub struct Search<'a> {
     pub goal: usize,
     pub ghost written: { used ≤ length numbers.now },
     pub ghost started: { count ≤ length starts.now },
+    pub ghost few: { given ≤ count },
+    pub ghost stands: { Below numbers.now used goal },
 }
 
 impl<'a> Search<'a> {
     ghost use Rattle.entails.specs.Searches.{Learned};
 
-    /// Premises and lemmas.
-    pub fn all(&self) -> Premises
+    /// The first n of premises and lemmas.
+    pub fn first(&self, n: usize) -> Premises
+        requires { n ≤ self.now.count }
         ensures numbers { result.numbers.now ≡ self.now.numbers.now }
-        ensures starts { result.starts.now ≡ take self.now.count self.now.starts.now }
+        ensures starts { result.starts.now ≡ take n self.now.starts.now }
         ensures most { result.most ≡ u64.MAX }
     {
         Premises {
             numbers: self.numbers,
-            starts: &self.starts[..self.count],
-            most: u64::MAX,
-        }
-    }
-
-    /// The premises alone.
-    pub fn premises(&self) -> Premises
-        requires { self.now.given ≤ self.now.count }
-        ensures numbers { result.numbers.now ≡ self.now.numbers.now }
-        ensures starts { result.starts.now ≡ take self.now.given self.now.starts.now }
-        ensures most { result.most ≡ u64.MAX }
-    {
-        Premises {
-            numbers: self.numbers,
-            starts: &self.starts[..self.given],
-            most: u64::MAX,
+            starts: &self.starts[..n],
+            most: NO_LIMIT,
         }
     }
 
     /// One more number.
-    pub fn push(&mut self, x: u64) -> Result<(), Full>
+    pub fn push(&mut self, x: u64) -> Result<(), Lack>
         ensures learned { Learned self.old self.new }
         ensures more { OnOk result (self.new.used ≡ self.old.used + 1) }
-        ensures full { OnErr result (self.new.used ≡ length self.new.numbers.now) }
+        ensures full { IfErr result (λ lack. (lack ≡ Lack.Numbers) × (self.new.used ≡ length self.new.numbers.now)) }
         ensures lemmas { self.new.count ≡ self.old.count }
     {
         if self.used >= self.numbers.len() {
-            return Err(Full);
+            return Err(Lack::Numbers);
         }
         self.numbers[self.used] = x;
         self.used += 1;
@@ -68,10 +58,10 @@ impl<'a> Search<'a> {
     }
 
     /// A list: its length, and then so many numbers.
-    pub fn push_list<I: Iterator<Item = u64> + Drop>(&mut self, items: I) -> Result<(), Full>
+    pub fn push_list<I: Iterator<Item = u64> + Drop>(&mut self, items: I) -> Result<(), Lack>
         requires { I.can_next items × IsFinite (I.remaining items) }
         ensures learned { Learned self.old self.new }
-        ensures full { OnErr result (self.new.used ≡ length self.new.numbers.now) }
+        ensures full { IfErr result (λ lack. (lack ≡ Lack.Numbers) × (self.new.used ≡ length self.new.numbers.now)) }
         ensures lemmas { self.new.count ≡ self.old.count }
     {
         let at = self.used;

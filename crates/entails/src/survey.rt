@@ -1,9 +1,11 @@
 // Whether premises and goal stand below a limit, and are of positions that there are.
-ghost use Rattle.std.specs.Prelude.{◌≡◌, ℕ, ◌≤◌, length};
+ghost use Rattle.std.specs.Prelude.{◌≡◌, ℕ, ◌≤◌, List, length, Err};
+ghost use Rattle.entails.specs.Answers.{Answered};
 ghost use Rattle.entails.specs.Surveys.{Scanned, Surveyed};
+ghost use Rattle.entails.specs.declared.Question.{Question as Asked};
 ghost use Rattle.entails.specs.declared.survey.Unfit.TheVariants.{Worn};
 
-use crate::Question;
+use crate::{Lack, Outcome, Question};
 use budget::{Exhausted, Work};
 use clauses::lists::list_at;
 use clauses::literal::Literal;
@@ -26,6 +28,18 @@ impl From<Exhausted> for Unfit {
     }
 }
 
+impl From<Unfit> for Outcome {
+    ghost from_gives = { λ unfit outcome. (q : Asked) (value trail reason value' : List ℕ) (used' count' left : ℕ) → Surveyed q (length value) left (Err unfit) → Answered q.numbers.now q.used q.starts.now q.count q.goal value trail reason value' used' count' left outcome };
+
+    fn from(unfit: Unfit) -> Outcome {
+        match unfit {
+            Unfit::Malformed => Outcome::Malformed,
+            Unfit::Wide => Outcome::Exhausted(Lack::Value),
+            Unfit::Worn => Outcome::Exhausted(Lack::Work),
+        }
+    }
+}
+
 // Looks over the clause at s.
 fn scan(numbers: &[u64], s: usize, positions: usize, work: &mut Work) -> Result<(), Unfit>
     ensures layout { Scanned numbers.now s positions work.new.left result }
@@ -35,10 +49,11 @@ fn scan(numbers: &[u64], s: usize, positions: usize, work: &mut Work) -> Result<
         return Err(Unfit::Malformed);
     };
     work.spend(clause.len() as u64 + 1)?;
-    for l in clause {
-        if Literal::from(*l).position >= positions {
-            return Err(Unfit::Wide);
-        }
+    if clause
+        .iter()
+        .any(|l| Literal::from(*l).position >= positions)
+    {
+        return Err(Unfit::Wide);
     }
     Ok(())
 }

@@ -1,6 +1,7 @@
 // Clauses and goals, with the outcome of each.
 use crate::{Answer, Lack, Outcome, Question, Room, follows};
 
+// Not `copy_from_slice`, which would have to be given as many: of what a test is given that is not known.
 fn fill(numbers: &mut [u64], from: &[u64]) {
     for (to, x) in numbers.iter_mut().zip(from) {
         *to = *x;
