@@ -1,6 +1,7 @@
 // A checked parser that runs. Read store and machine; then want, sink, hand and eval: how the bits of an expression are handed on,
 // and what takes them; then walk and run. measure stands alone.
-// Bits, headers and states stay plain numbers: a type around them would be taken apart at each part that is handed on.
+// Bits, headers and states stay plain numbers, and an expression stands beside its machine: a type around them would be taken apart
+// at each part that is handed on.
 #![tactic(auto)]
 
 mod eval;

@@ -64,6 +64,7 @@ pub fn sweep<S: System>(
         return Err(Exhausted);
     }
     let (front, message) = room.split_at_mut(at);
+    // not by `map`: what that gives is read by cases, in a lemma of its own
     match search(system, work, front, message)? {
         None => Ok(None),
         Some(start) => Ok(Some(Reached { start, at })),

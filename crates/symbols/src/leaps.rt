@@ -12,6 +12,7 @@ use syntax::Target;
 
 // k bits at a point. The header bits' symbols after them are left in `heads`, and while a state waits
 // those of what it has taken in `buffer`. They are the same for every outcome, since ops come before the select.
+// Why these stand beside the machine is said in walk.rt.
 pub fn leap(
     machine: &Machine,
     point: Point,
