@@ -11,20 +11,6 @@ returns-in_err-enough-clause-right c =
     let e = err_from_is_err_and c.from_residual.result c.from_residual.ensures.1 in
     rw (e.1, e.2) (c.in_err-enough.ensures.lack s.count c.args.work.now.left)
 
-pub returns-then-not-believed-clause-learned : goal.returns-then-not-believed-clause-learned
-returns-then-not-believed-clause-learned c =
-    elim c.match-found.branch [
-      | in-Shown w ↦ rw w.search-is (learned_checked c.args.search.now c.hunt.new.search c.requires.begins.1 c.hunt.ensures.learned w.confirm-believed.new.search w.confirm-believed.ensures.checked)
-      | in-Model w ↦ rw w.search-is c.hunt.ensures.learned
-    ]
-
-pub returns-clause-learned : goal.returns-clause-learned
-returns-clause-learned c =
-    elim c.match-found.branch [
-      | in-Shown w ↦ rw w.search-is (learned_checked c.args.search.now c.hunt.new.search c.requires.begins.1 c.hunt.ensures.learned w.confirm-believed.new.search w.confirm-believed.ensures.checked)
-      | in-Model w ↦ rw w.search-is c.hunt.ensures.learned
-    ]
-
 pub returns-clause-right : goal.returns-clause-right
 returns-clause-right c =
     elim c.match-found.branch [

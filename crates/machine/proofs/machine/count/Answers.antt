@@ -15,11 +15,6 @@ count_ops-requires c =
       few = subst (λ n. n ≤ 4096) (sym (ap₂ (λ ns os. ops_width ns (map op_of os)) c.deref-in-loop-state.ensures.value c.deref.ensures.value)) ok.narrow;
     }
 
-pub loop-state-preserved : goal.loop-state-preserved
-loop-state-preserved c =
-    made_more c.loop-state.invariant c.loop-state-test.true c.state-item.is c.in_ok-push.ensures.items
-    (c.count_ops.ensures ∙ ap₂ (λ ns os. ops_width ns (map op_of os)) c.deref-in-loop-state.ensures.value c.deref.ensures.value)
-
 pub returns : goal.returns
 returns c =
     let p = parser_of c.args.checked.now.parser in

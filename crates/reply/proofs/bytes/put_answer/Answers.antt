@@ -8,16 +8,6 @@ use Rattle.reply.proofs.Numbers.{number-bool_byte}
 use Rattle.reply.proofs.Parts.{difference-drop}
 use Rattle.reply.proofs.bytes.put_answer.Goals as goal
 
-pub returns-in_ok-put_number-in-Refused-2 : goal.returns-in_ok-put_number-in-Refused-2
-returns-in_ok-put_number-in-Refused-2 c =
-    let n : ℕ = c.in-Refused.number in
-    let k : ℕ = c.in-Refused.offset in
-    IfOk-weaker c.put_number-in-Refused-2.result _ _
-    (λ _ q. tagged 0 (λ rest. number 1 n (number 8 k rest)) (vec_items c.args.out.now) (vec_items c.put_number.new.out) (vec_items c.put_number-in-Refused-2.new.out) _ c.in_ok-put_number-in-Refused.ensures
-    (both (number 1 n) (number 8 k) (vec_items c.put_number.new.out) (vec_items c.put_number-in-Refused.new.out) (vec_items c.put_number-in-Refused-2.new.out) c.in_ok-put_number-in-Refused-2.ensures q)
-    (ap (λ x. answer (answer_of c.args.room.now x)) (sym c.in-Refused.is)))
-    c.put_number-in-Refused-2.ensures
-
 pub returns-in_ok-put_number-in-Verdict : goal.returns-in_ok-put_number-in-Verdict
 returns-in_ok-put_number-in-Verdict c =
     IfOk-weaker c.put_number-in-Verdict-2.result _ _

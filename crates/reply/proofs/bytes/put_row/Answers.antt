@@ -2,9 +2,6 @@ use Rattle.std.proofs.Common.{vec_items}
 use Rattle.reply.proofs.Appending.{bits_none, bits_more, row_all}
 use Rattle.reply.proofs.bytes.put_row.Goals as goal
 
-pub loop-k-init : goal.loop-k-init
-loop-k-init c = bits_none (vec_items c.put_number.new.out) c.args.row.now.words.now c.args.row.now.len
-
 pub loop-k-preserved : goal.loop-k-preserved
 loop-k-preserved c =
     bits_more (vec_items c.put_number.new.out) (vec_items c.loop-k.out) (vec_items c.push.new.self) c.args.row.now.words.now c.args.row.now.len c.loop-k.k c.bit.result

@@ -5,15 +5,6 @@ use Rattle.reply.specs.View.{answer_of}
 use Rattle.reply.proofs.Showing.{unlike_line}
 use Rattle.reply.proofs.text.line.Goals as goal
 
-pub returns-in-Alike : goal.returns-in-Alike
-returns-in-Alike c = IfOk-weaker c.format-in-Alike.result _ _ (λ s h. h ∙ ap (λ x. line_of (answer_of c.args.room.now x)) (sym c.in-Alike.is)) c.format-in-Alike.ensures.ok
-
-pub returns-in-Refused : goal.returns-in-Refused
-returns-in-Refused c = IfOk-weaker c.format.result _ _ (λ s h. h ∙ ap (λ x. line_of (answer_of c.args.room.now x)) (sym c.in-Refused.is)) c.format.ensures.ok
-
-pub returns-in-Neither : goal.returns-in-Neither
-returns-in-Neither c = IfOk-weaker c.format-in-Neither.result _ _ (λ s h. h ∙ ap (λ x. line_of (answer_of c.args.room.now x)) (sym c.in-Neither.is)) c.format-in-Neither.ensures.ok
-
 pub returns-in_ok-message-in-Unlike : goal.returns-in_ok-message-in-Unlike
 returns-in_ok-message-in-Unlike c =
     let first = c.in_ok-first-in-Unlike.ensures in

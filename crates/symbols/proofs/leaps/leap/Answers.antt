@@ -14,9 +14,6 @@ use Rattle.symbols.proofs.Points.{state_known, state_needs}
 use Rattle.symbols.proofs.Sides.{heads_numbered, buffer_numbered, waits, walks, ends, ends_when, walked_are, heads_below, walked_below, buffer_below}
 use Rattle.symbols.proofs.leaps.leap.Goals as goal
 
-pub index-state-requires : goal.index-state-requires
-index-state-requires c = indexed c.args.machine.now c.in-State.q (state_known c.args.machine.now c.args.point c.requires.stands c.in-State.is)
-
 pub perform-requires : goal.perform-requires
 perform-requires c =
     let m : Machine = c.args.machine.now in

@@ -2,9 +2,6 @@ use Rattle.std.proofs.Common.{◌-◌, sym, ap, ◌∙◌, arith}
 use Rattle.symbols.proofs.Points.{state_known, state_needs, end_needs}
 use Rattle.symbols.proofs.size.still_needs.Goals as goal
 
-pub width-requires : goal.width-requires
-width-requires c = state_known c.args.machine.now c.args.point c.requires c.in-State.is
-
 pub overflow_sub-result : goal.overflow_sub-result
 overflow_sub-result c = omega (arith, c.width.ensures, state_needs c.args.machine.now c.args.point c.in-State.is, c.requires.ready)
 

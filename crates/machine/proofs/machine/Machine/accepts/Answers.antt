@@ -6,13 +6,6 @@ use Rattle.machine.specs.View.{contents, parser_in}
 use Rattle.machine.proofs.Accepting.{at_first, known, stops, takes_some, goes_on, at_accept, at_reject}
 use Rattle.machine.proofs.machine.Machine.accepts.Goals as goal
 
-pub loop-target-init : goal.loop-target-init
-loop-target-init c =
-    record { running = at_first (parser_in c.args.self.now) (contents c.args.self.now c.args.store.now) c.args.start c.args.input.now c.requires.begins; bits = c.requires.bits }
-
-pub width-requires : goal.width-requires
-width-requires c = known (parser_in c.args.self.now) c.in-State.q c.loop-target.invariant.running (ap target_of c.in-State.is)
-
 pub returns-in_default : goal.returns-in_default
 returns-in_default c = stops (parser_in c.args.self.now) c.in-State.q c.loop-target.invariant.running (ap target_of c.in-State.is) c.width.ensures c.in_default.ensures.cases
 
@@ -24,10 +17,6 @@ walk-target-requires c =
       bits = ap (every (λ b. ltb b 2)) split.1 ∙ every_take (λ b. ltb b 2) c.loop-target.rest.now c.loop-target.invariant.bits c.width.result;
       wide = split.3 ∙ c.width.ensures;
     }
-
-pub loop-target-smaller : goal.loop-target-smaller
-loop-target-smaller c =
-    omega (arith, takes_some (parser_in c.args.self.now) c.in-State.q c.loop-target.invariant.running (ap target_of c.in-State.is) c.width.ensures c.args.self.now.checked.right, c.in-Some.ensures.cases)
 
 pub loop-target-preserved : goal.loop-target-preserved
 loop-target-preserved c =

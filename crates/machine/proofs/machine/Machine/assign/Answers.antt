@@ -10,14 +10,6 @@ use Rattle.machine.proofs.Handing.{taken, wrote_whole}
 use Rattle.machine.proofs.Writes.{header_written}
 use Rattle.machine.proofs.machine.Machine.assign.Goals as goal
 
-pub hand-requires : goal.hand-requires
-hand-requires c =
-    record {
-      proper = c.requires.proper;
-      there = (right_from (parser_of c.args.self.now.checked.parser) c.args.self.now.checked.right).room;
-      room = omega (arith, c.start.ensures.room, c.size.ensures, c.first.ensures.most);
-    }
-
 pub returns : goal.returns
 returns c =
     let ns : List ℕ = sizes_in c.args.self.now in

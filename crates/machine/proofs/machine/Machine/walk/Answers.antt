@@ -10,9 +10,6 @@ use Rattle.machine.proofs.machine.Machine.walk.Goals as goal
 known : (m : Machine) (q : ℕ) → q < state_count m → q < length (vec_items m.checked.parser.states)
 known m q l = omega (arith, length-map (vec_items m.checked.parser.states) state_of)
 
-pub index-state-requires : goal.index-state-requires
-index-state-requires c = omega (arith, known c.args.self.now c.args.q c.requires.known, c.args.self.now.checked.parser.states.ok.0)
-
 pub perform-requires : goal.perform-requires
 perform-requires c =
     let m : Machine = c.args.self.now in
@@ -25,12 +22,3 @@ perform-requires c =
 
 pub select-requires : goal.select-requires
 select-requires c = sound_read c.args.self.now.checked refl (known c.args.self.now c.args.q c.requires.known) c.index-state.ensures
-
-pub returns : goal.returns
-returns c =
-    let m : Machine = c.args.self.now in
-    let is = state_read (vec_items m.checked.parser.states) (known m c.args.q c.requires.known) c.index-state.ensures in
-    record {
-      done = c.perform.ensures ∙ ap (λ z. run_ops (sizes_in m) z.ops c.args.part.now (contents m c.args.store.now)) is;
-      leads = c.select.ensures ∙ ap (selected (contents m c.perform.new.store)) is;
-    }

@@ -17,8 +17,3 @@ loop-i-preserved c =
     write_more c.loop-i.invariant
     (c.set.ensures.here ∙ ap (λ b. cond (eqb b 1) 1 0) c.get.ensures ∙ bit_told (bit_in ws j) (bit_at-lt (get_or ws (j / 64) 0) (j % 64)) ∙ sym (part_at (bit_in ws) c.args.start c.args.n i within))
     c.set.ensures.others
-
-pub returns : goal.returns
-returns c =
-    let all : c.loop-i.i ≡ c.args.n = omega arith in
-    subst (Written (bit_in c.args.self.now.words) (bit_in c.loop-i.self.words) (part (bit_in c.args.other.now.words) c.args.start c.args.n) c.args.k) all c.loop-i.invariant

@@ -9,8 +9,3 @@ pub loop-i-preserved : goal.loop-i-preserved
 loop-i-preserved c =
     let bs : List ℕ = c.args.bits.now in
     write_more c.loop-i.invariant (c.set.ensures.here ∙ bit_told (get_or bs c.loop-i.i 0) (bits_small bs c.requires.bits c.loop-i.i)) c.set.ensures.others
-
-pub returns : goal.returns
-returns c =
-    let all : c.loop-i.i ≡ length c.args.bits.now = omega arith in
-    subst (Written (bit_in c.args.self.now.words) (bit_in c.loop-i.self.words) c.args.bits.now c.args.k) all c.loop-i.invariant

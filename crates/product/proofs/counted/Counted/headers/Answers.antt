@@ -7,6 +7,3 @@ overflow_shr-k c = buffer_narrow c.args.self.now
 
 pub low-requires : goal.low-requires
 low-requires c = headers-narrow c.args.self.now
-
-pub returns : goal.returns
-returns c = c.low.ensures ∙ ap₂ (λ w h. c.args.k / 2 ^ w % 2 ^ h) c.args.self.now.side.wide c.args.self.now.side.headers

@@ -18,22 +18,3 @@ overflow_add-n c =
     let more : c.loop-digit.n * 256 + d < 256 ^ (i + 1) = digit_bound c.loop-digit.n i d c.loop-digit.invariant.1 (omega arith) in
     let small : c.loop-digit.n * 256 + d < 18446744073709551616 = number_small _ (i + 1) c.args.width (omega (arith, c.in_ok-digit-items.ensures.sized)) c.requires.narrow more in
     omega arith
-
-pub loop-digit-preserved : goal.loop-digit-preserved
-loop-digit-preserved c =
-    let i : ℕ = c.loop-digit.digit-index in
-    let ds : List ℕ = c.in_ok-digit-items.digit-items.now in
-    (more_digits ds c.loop-digit.n i c.loop-digit-test.true c.loop-digit.invariant.0, digit_bound c.loop-digit.n i (get_or ds i 0) c.loop-digit.invariant.1 (omega arith))
-
-pub returns : goal.returns
-returns c =
-    let i : ℕ = c.loop-digit.digit-index in
-    let e = c.in_ok-digit-items.ensures in
-    let all : i ≡ c.args.width = omega (arith, e.sized) in
-    let value = all_digits c.in_ok-digit-items.digit-items.now c.loop-digit.n i c.loop-digit-test.false c.loop-digit.invariant.0 in
-    record {
-      reads = then_took _ e.reads (took (big_endian 0 e.reads.value) e.reads.within (value ∙ ap (big_endian 0) e.reads.meant));
-      bound = rw all at c.loop-digit.invariant.1;
-      moved = e.moved;
-      succeeds = λ _. refl;
-    }

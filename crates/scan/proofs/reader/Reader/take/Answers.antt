@@ -11,11 +11,3 @@ returns-then-left-count-clause-reads c =
     let few : length (left p) < c.args.count = rw (tail p.bytes p.at) at c.if-left-count.true in
     subst (λ q. Stopped (read_bytes c.args.count (left q)) q q (Garbled (length p.bytes))) c.self.view_is
     (record { same = refl; why = ceased (too_few p c.args.count few) })
-
-pub returns-clause-reads : goal.returns-clause-reads
-returns-clause-reads c =
-    let p : Place = record { bytes = c.self.inside.bytes.now; at = c.self.inside.at } in
-    let n : ℕ = c.args.count in
-    let all : n ≤ length (left p) = rw (tail p.bytes p.at) at c.if-left-count.false in
-    rw (← c.self.view_is)
-    (record { within = omega (arith, length-drop p.at p.bytes); same = refl; value = take n (left p); reads = enough p n all; meant = ap (take n) (tail p.bytes p.at) })

@@ -11,13 +11,6 @@ use Rattle.symbols.proofs.Deciding.{keys_are, patterns_are, sound_in, case_sized
 use Rattle.symbols.proofs.Reading.{indexed, state_is, case_count, case_is}
 use Rattle.symbols.proofs.heads.Heads.condition.Goals as goal
 
-pub index-state-requires : goal.index-state-requires
-index-state-requires c = indexed c.args.self.now.machine.now c.args.q c.requires.known
-
-pub index-requires : goal.index-requires
-index-requires c =
-    omega (arith, c.requires.there, case_count c.args.self.now.machine.now c.args.q c.requires.known c.index-state.ensures, c.index-state.result.now.cases.ok.0)
-
 pub hold-requires : goal.hold-requires
 hold-requires c =
     let m : Machine = c.args.self.now.machine.now in

@@ -8,39 +8,12 @@ use Rattle.symbols.specs.View.{symbols_in}
 use Rattle.symbols.proofs.Conditions.{Left, proper, as_wide, passes_any, wrote, all_written, room_left}
 use Rattle.symbols.proofs.heads.Heads.hold.Goals as goal
 
-pub loop-key-init : goal.loop-key-init
-loop-key-init c =
-    let ns : List ℕ = sizes_in c.args.self.now.machine.now in
-    let s : Store = symbols_in c.args.self.now.machine.now c.args.self.now.symbols.now in
-    let start : List ℕ = take c.args.at c.args.out.now in
-    let whole : List ℕ = start ++ condition_of s (map expr_of c.args.keys.now) (map pattern_of c.args.patterns.now) in
-    let zipped = c.into_iter-key-iterator.ensures.into_iter_gives in
-    let first = ap (λ i. i.a.rest.now) zipped ∙ ap (λ i. i.rest.now) c.zip-key-items.ensures.first ∙ c.iter.ensures.rest in
-    let second = ap (λ i. i.b.rest.now) zipped ∙ c.zip-key-items.ensures.second.0 in
-    subst (λ xs. Left ns s start c.args.at c.args.out.now whole c.args.at xs c.into_iter-key-iterator.result.b.rest.now) (sym first)
-    (subst (Left ns s start c.args.at c.args.out.now whole c.args.at c.args.keys.now) (sym second)
-    (record { same = refl; kept = refl; named = c.requires.named; sized = c.requires.sized; wide = c.requires.wide; reached = omega arith; room = c.requires.within }))
-
-pub write_pairs-next-requires : goal.write_pairs-next-requires
-write_pairs-next-requires c =
-    let steps = c.in-Some.ensures.steps in
-    record {
-      proper = proper _ _ _ _ c.loop-key.invariant steps.0 steps.1;
-      wide = ap length c.deref.ensures.value ∙ as_wide _ _ _ _ c.loop-key.invariant steps.0 steps.1 c.in-Exactly.is;
-      room = omega (arith, room_left c.loop-key.next c.len.result (length c.loop-key.out) c.loop-key.invariant.room c.if-out-next.false, c.deref.ensures.len, c.len.ensures);
-    }
-
 pub loop-key-preserved-in-Exactly : goal.loop-key-preserved-in-Exactly
 loop-key-preserved-in-Exactly c =
     let steps = c.in-Some.ensures.steps in
     let r : c.loop-key.next + 2 * c.len.result ≤ length c.loop-key.out = room_left c.loop-key.next c.len.result (length c.loop-key.out) c.loop-key.invariant.room c.if-out-next.false in
     wrote _ _ _ _ c.loop-key.invariant steps.0 steps.1 c.in-Exactly.is c.write_pairs-next.ensures.wrote c.deref.ensures.value (omega (arith, c.write_pairs-next.ensures.end))
     (omega (arith, c.write_pairs-next.ensures.end, c.write_pairs-next.auto.out, c.deref.ensures.len, c.len.ensures))
-
-pub loop-key-preserved : goal.loop-key-preserved
-loop-key-preserved c =
-    let steps = c.in-Some.ensures.steps in
-    passes_any _ _ _ _ c.loop-key.invariant steps.0 steps.1 c.in_default.is
 
 pub returns : goal.returns
 returns c =
