@@ -22,7 +22,12 @@ pub struct Tries<'a> {
 }
 
 impl<'a> Tries<'a> {
-    pub fn new(value: &'a mut [u64], trail: &'a mut [u64], reason: &'a mut [u64]) -> Tries<'a> {
+    /// Nothing is on the trail yet; the rooms are as they were lent.
+    pub fn new(value: &'a mut [u64], trail: &'a mut [u64], reason: &'a mut [u64]) -> Tries<'a>
+        ensures known { (result.known.value.now ≡ value.old) × (result.known.trail.now ≡ trail.old) }
+        ensures reason { result.reason.room.now ≡ reason.old }
+        ensures empty { (result.known.depth ≡ 0) × (result.reason.len ≡ 0) }
+    {
         Tries {
             known: Known::new(&[], value, trail, 0),
             reason: Stack::new(reason, 0),
