@@ -1,6 +1,9 @@
 -- Headers in a row: what stands where, and rows that stand for others. Assumes nothing.
-use Rattle.std.proofs.Common.{◌≡◌, ℕ, zero, suc, ◌+◌, ◌<◌, ◌≤◌, List, [], ◌∷◌, map, length, get_or, sym, refl, ap, ◌∙◌, ap₂, not-suc-le-zero, add-zero, arith}
-use Rattle.model.specs.Refusal.{sum}
+use Rattle.std.proofs.Common.{◌≡◌, ℕ, zero, suc, ◌+◌, ◌/◌, ◌%◌, ◌<◌, ◌≤◌, true, List, [], ◌∷◌, map, length, get_or, sym, refl, ap, ◌∙◌, ap₂, not-suc-le-zero, add-zero, arith}
+use Rattle.std.proofs.lemmas.Bool.{and_from, eq-eqb, lt-ltb}
+use Rattle.std.proofs.lemmas.Nat.Bits.{bit_at-lt}
+use Rattle.model.specs.Refusal.{are_bits, store_fits, sum}
+use Rattle.rows.specs.Row.{bit_in}
 use Rattle.machine.specs.Row.{part, headers}
 use Rattle.machine.specs.Ready.{starts_from}
 
@@ -37,3 +40,12 @@ pub same_headers : (f h : ℕ → ℕ) (k m : ℕ) (ns : List ℕ) → ((i : ℕ
 same_headers f h k m [] e = refl
 same_headers f h k m (n ∷ ns) e =
     ap₂ ◌∷◌ (same_part f h k m n (λ i l. e i (omega arith))) (same_headers f h (k + n) (m + n) ns (λ i l. ap f (omega arith) ∙ e (n + i) (omega arith) ∙ ap h (omega arith)))
+
+-- words hold nothing but bits
+part_bits : (ws : List ℕ) (k n : ℕ) → are_bits (part (bit_in ws) k n) ≡ true
+part_bits ws k zero = refl
+part_bits ws k (suc n) = and_from _ _ (lt-ltb _ _ (bit_at-lt (get_or ws (k / 64) 0) (k % 64))) (part_bits ws (suc k) n)
+
+pub headers_fit : (ws : List ℕ) (k : ℕ) (ns : List ℕ) → store_fits ns (headers (bit_in ws) k ns) ≡ true
+headers_fit ws k [] = refl
+headers_fit ws k (n ∷ ns) = and_from _ _ (and_from _ _ (eq-eqb _ _ (length_part (bit_in ws) k n)) (part_bits ws k n)) (headers_fit ws (k + n) ns)

@@ -1,11 +1,14 @@
 -- What is written into a row one after the other, and a header that is written so. Assumes nothing.
-use Rattle.std.proofs.Common.{◌≡◌, ℕ, zero, suc, ◌+◌, ◌<◌, ◌≤◌, List, [], ◌∷◌, length, get_or, set, sym, ◌∙◌, subst, ap₂, ⊎_elim, not-suc-le-zero, arith}
+use Rattle.std.proofs.Common.{◌≡◌, ℕ, zero, suc, ◌+◌, ◌<◌, ◌≤◌, List, [], ◌∷◌, length, get_or, set, sym, refl, ◌∙◌, subst, ap₂, ⊎_elim, not-suc-le-zero, arith}
 use Rattle.std.proofs.lemmas.List.{ext_get_or}
 use Rattle.std.proofs.lemmas.Bool.{cases_lt}
 use Rattle.machine.specs.Ready.{starts_from}
 use Rattle.machine.specs.Row.{part, headers}
 use Rattle.machine.specs.Window.{Written}
 use Rattle.machine.proofs.Rows.{length_part, part_at, same_part, same_headers}
+
+pub write_none : (f : ℕ → ℕ) (xs : List ℕ) (k : ℕ) → Written f f xs k 0
+write_none f xs k = record { wrote = λ j l. absurd (not-suc-le-zero l); below = λ j l. refl; above = λ j l. refl }
 
 pub write_more : {f g h : ℕ → ℕ} {xs : List ℕ} {k i : ℕ} → Written f g xs k i → h (k + i) ≡ get_or xs i 0 → ((j : ℕ) → (j ≡ k + i → ⊥) → h j ≡ g j) → Written f h xs k (i + 1)
 write_more {f} {g} {h} {xs} {k} {i} w here others =
@@ -25,7 +28,7 @@ start_from k (n ∷ ns) zero l = omega arith
 start_from k (n ∷ ns) (suc h) l = omega (arith, start_from (k + n) ns h (omega arith))
 
 -- a header that is written whole
-write_all : (f g : ℕ → ℕ) (xs : List ℕ) (k : ℕ) (ns : List ℕ) (h : ℕ) → h < length ns → length xs ≡ get_or ns h 0 → Written f g xs (get_or (starts_from k ns) h 0) (get_or ns h 0)
+pub write_all : (f g : ℕ → ℕ) (xs : List ℕ) (k : ℕ) (ns : List ℕ) (h : ℕ) → h < length ns → length xs ≡ get_or ns h 0 → Written f g xs (get_or (starts_from k ns) h 0) (get_or ns h 0)
     → headers g k ns ≡ set (headers f k ns) h xs
 write_all f g xs k [] h l long w = absurd (not-suc-le-zero l)
 write_all f g xs k (n ∷ ns) zero l long w = ap₂ ◌∷◌ (written_part long w) (same_headers g f (k + n) (k + n) ns (λ i l. w.above (k + n + i) (omega arith)))

@@ -1,7 +1,7 @@
 -- A test of each element of a list: where it holds, by a map, and by a loop.
 use Rattle.std.proofs.Common.{◌≡◌, ℕ, zero, suc, ◌+◌, ◌<◌, ◌≤◌, Bool, true, false, ◌&&◌, List, [], ◌∷◌, ◌++◌, map, length, get_or, take, drop, sym, refl, ap, ◌∙◌, subst, not-suc-le-zero, arith}
 use Rattle.std.proofs.lemmas.List.{drop_more, drop_all}
-use Rattle.std.proofs.lemmas.Bool.{and_parts, and_from}
+use Rattle.std.proofs.lemmas.Bool.{and_parts, and_from, and_left, and_right}
 use Rattle.model.specs.Refusal.{every}
 
 pub every_map : {X Y : Type 0} (f : Y → Bool) (g : X → Y) (xs : List X) → every f (map g xs) ≡ every (λ x. f (g x)) xs
@@ -55,3 +55,16 @@ pub every_read : {X Y : Type 0} (f : Y → Bool) (g : X → Y) (xs : List X) →
 every_read f g [] e i l read = absurd (not-suc-le-zero l)
 every_read f g (y ∷ ys) e zero l read = subst (λ z. f (g z) ≡ true) (sym read) (and_parts _ _ e).0
 every_read f g (y ∷ ys) e (suc i) l read = every_read f g ys (and_parts _ _ e).1 i (omega arith) read
+
+-- one more at the end
+and_both : (b x y : Bool) → (x ≡ false → y ≡ false) → (b && x) ≡ false → (b && y) ≡ false
+and_both true x y f e = f e
+and_both false x y f e = refl
+
+pub every_front : {Y : Type 0} (sh : Y → Bool) (zs : List Y) (z : Y) → every sh zs ≡ false → every sh (zs ++ z ∷ []) ≡ false
+every_front sh [] z e = absurd (let q : ◌≡◌ {A = ℕ} 0 1 = cc in omega arith)
+every_front sh (y ∷ zs) z e = and_both (sh y) (every sh zs) (every sh (zs ++ z ∷ [])) (every_front sh zs z) e
+
+pub every_last : {Y : Type 0} (sh : Y → Bool) (zs : List Y) (z : Y) → sh z ≡ false → every sh (zs ++ z ∷ []) ≡ false
+every_last sh [] z e = and_left (sh z) true e
+every_last sh (y ∷ zs) z e = and_right (sh y) (every sh (zs ++ z ∷ [])) (every_last sh zs z e)

@@ -38,3 +38,9 @@ bisimulation_same m n r kept a b h (c ∷ w) bits =
 
 pub same_bisimulates : (m n : Machine) → Bisimulates m n (Same m n)
 same_bisimulates m n a b h = (h [] refl, λ c l w bits. h (c ∷ w) (are_bits_more c w l bits))
+
+pub same_sym : (m n : Machine) (a : m.Config) (b : n.Config) → Same m n a b → Same n m b a
+same_sym m n a b h w bits = sym (h w bits)
+
+pub same_trans : (m n o : Machine) (a : m.Config) (b : n.Config) (c : o.Config) → Same m n a b → Same n o b c → Same m o a c
+same_trans m n o a b c h i w bits = h w bits ∙ i w bits
