@@ -1,5 +1,5 @@
 // The whole sweep: the starts, all that they lead to, and if that is bad the message that leads there.
-ghost use Rattle.std.specs.Prelude.{◌≡◌, ◌+◌, ◌*◌, ◌<◌, ◌≤◌, length};
+ghost use Rattle.std.specs.Prelude.{◌≡◌, ◌+◌, ◌*◌, ◌^◌, ◌<◌, ◌≤◌, length};
 ghost use Rattle.reach.specs.Ended.{Ended, sets_words, table_words};
 ghost use Rattle.reach.specs.Sought.{Sought};
 
@@ -20,18 +20,24 @@ pub struct Reached {
 // Sweeps with the tables in one part of the room and the message in another. Gives the start that the message leads from.
 fn search<S: System>(
     system: &S,
+    count: u64,
     work: &mut Work,
     front: &mut [u64],
     message: &mut [u64],
 ) -> Result<Option<u64>, Exhausted>
+    requires size { count ≡ (S.model system.now).count }
+    requires small { count ≤ 2 ^ 60 }
     requires tables { table_words (S.model system.now).count ≤ length front.old }
     requires message { sets_words (S.model system.now).count < length message.old }
     ensures answer { Sought (S.model system.now) work.old.left work.new.left message.new result }
     ensures spent { work.new.left ≤ work.old.left }
 {
-    let count = system.count();
-    // a turn for each word of the three sets, which are cleared
-    work.spend(3 * set_words(count))?;
+    // a turn for each word of the three sets, which are cleared: where fewer turns are left, so many of the words are
+    let turns = 3 * set_words(count);
+    if work.left < turns {
+        front[..work.left as usize].fill(0);
+    }
+    work.spend(turns)?;
     let mut tables = Tables::new(count, front);
     let mut bad = seed(system, &mut tables, work)?;
     let roots = tables.tail;
@@ -65,7 +71,7 @@ pub fn sweep<S: System>(
     }
     let (front, message) = room.split_at_mut(at);
     // not by `map`: what that gives is read by cases, in a lemma of its own
-    match search(system, work, front, message)? {
+    match search(system, count, work, front, message)? {
         None => Ok(None),
         Some(start) => Ok(Some(Reached { start, at })),
     }

@@ -10,6 +10,7 @@ mod tables;
 mod tests;
 mod way;
 
+pub use budget::{Exhausted, Work};
 pub use exhaustive::{Reached, sweep};
 pub use layout::table_words;
 pub use system::System;

@@ -73,6 +73,21 @@ fn message(rt: HostRuntime) {
     assert_eq!(rt; room[12], 0b101);
 }
 
+// Three words are to be cleared, a turn each.
+#[test]
+fn clears_as_far_as_the_work_goes(rt: HostRuntime) {
+    for (had, cleared) in [(0u64, 0usize), (2, 2), (3, 3)] {
+        let mut room = [7u64; 13];
+        let mut work = Work { left: had };
+        let ended = sweep(&Register { bad: 16 }, &mut work, &mut room, 2);
+        assert_eq!(rt; ended, EXHAUSTED);
+        assert_eq!(rt; work.left, 0);
+        for (i, word) in room.iter().enumerate() {
+            assert_eq!(rt; *word, if i < cleared { 0 } else { 7 }, "{}", had);
+        }
+    }
+}
+
 #[test]
 fn one_word_too_few(rt: HostRuntime) {
     let mut room = [7u64; 12];
