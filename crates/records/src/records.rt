@@ -1,5 +1,5 @@
 // The records of a file, one after the other.
-ghost use Rattle.std.specs.Prelude.{◌≡◌, [], length, MatchOption};
+ghost use Rattle.std.specs.Prelude.{◌≡◌, ◌≤◌, [], drop, length, MatchOption};
 ghost use Rattle.std.specs.Iterator.{at_most};
 ghost use Rattle.records.specs.Record.{first_request, after_record, Found};
 
@@ -36,6 +36,22 @@ impl<'a> Records<'a> {
         ensures { result ≡ record { bytes = file.now; at = 0 } }
     {
         Records { rest: file, at: 0 }
+    }
+
+    // The offset of what comes next in the file.
+    pub fn offset(&self) -> usize
+        ensures { result ≡ self.now.at }
+    {
+        self.at
+    }
+
+    // What a file has from an offset on.
+    pub fn begin_at(file: &'a [u8], at: usize) -> Records<'a>
+        requires { at ≤ length file.now }
+        ensures { result ≡ record { bytes = drop at file.now; at = at } }
+    {
+        let rest = &file[at..];
+        Records { rest, at }
     }
 }
 
