@@ -9,10 +9,11 @@ pub enum Failure {
     NoNumber,
     #[error("there is no such option: see --help")]
     NoOption,
-    #[error("{name}: {error}")]
-    Unread { name: String, error: io::Error },
-    #[error("{name}: byte {at}: not enough memory")]
-    Unanswered { name: String, at: usize },
+    // of a file, with its name made ready where it fails, so that want of memory for that is told there
+    #[error("{about}{error}")]
+    Unread { about: String, error: io::Error },
+    #[error("{0}")]
+    Unanswered(String),
     #[error(transparent)]
     Io(#[from] io::Error),
     #[error(transparent)]

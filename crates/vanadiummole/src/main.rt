@@ -37,9 +37,10 @@ fn answer_all(rt: &HostRuntime, name: &str, file: &[u8], options: &Options) -> R
     let mut room = Room::new(rt.alloc());
     for record in Records::new(file) {
         let Ok(line) = answer_line(rt.alloc(), record.request, options, &mut room) else {
-            let name = String::from_str(rt.alloc(), name)?;
             let at = record.at;
-            return Err(Failure::Unanswered { name, at });
+            return Err(Failure::Unanswered(format!(in rt.alloc();
+                "{name}: byte {at}: not enough memory"
+            )?));
         };
         rt.println(line)?;
     }
@@ -54,8 +55,9 @@ fn read_file(rt: &HostRuntime, name: &str) -> Result<Vec<u8>, Failure> {
         return Ok(bytes);
     }
     fs::read(rt, name).try_map_err(|error| {
-        let name = String::from_str(rt.alloc(), name)?;
-        Ok(Failure::Unread { name, error })
+        let mut about = String::from_str(rt.alloc(), name)?;
+        about.push_str(": ")?;
+        Ok(Failure::Unread { about, error })
     })
 }
 
