@@ -15,12 +15,16 @@ const PACKED: u64 = 1048576;
 
 const SLOT: u64 = 2097152;
 
-// Entry i of the three in a word.
+// Entry i of the three in a word. By cases: the places come one after the other, and a shift by a number that is known is the quicker one.
 fn get_slot(word: u64, i: usize) -> u64
     requires { i < 3 }
     ensures { result ≡ slot word i }
 {
-    (word >> (21 * i)) % SLOT
+    match i {
+        0 => word % SLOT,
+        1 => (word >> 21) % SLOT,
+        _ => (word >> 42) % SLOT,
+    }
 }
 
 // The word with this as entry i.
@@ -29,7 +33,12 @@ fn put_slot(word: u64, i: usize, v: u64) -> u64
     ensures here { slot result i ≡ v }
     ensures others { (j : ℕ) → j < 3 → (j ≢ i) → slot result j ≡ slot word j }
 {
-    word - (get_slot(word, i) << (21 * i)) + (v << (21 * i))
+    let old = get_slot(word, i);
+    match i {
+        0 => word - old + v,
+        1 => word - (old << 21) + (v << 21),
+        _ => word - (old << 42) + (v << 42),
+    }
 }
 
 impl Layout {
