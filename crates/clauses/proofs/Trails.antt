@@ -51,7 +51,7 @@ allows_same v k k' rep value h = rw (rep, value) h
 
 -- nothing happened
 pub kept_none : (k : Knowledge) → Kept k k
-kept_none k = record { rep = refl; value = refl; trail = refl; undoes = λ before base h. h }
+kept_none k = record { rep = refl; value = refl; trail = refl; bits = refl; steps = refl; undoes = λ before base h. h }
 
 -- one step and then another
 pub kept_both : (k k₁ k₂ : Knowledge) → Kept k k₁ → Kept k₁ k₂ → Kept k k₂
@@ -59,6 +59,8 @@ kept_both k k₁ k₂ h g = record {
   rep = g.rep ∙ h.rep;
   value = g.value ∙ h.value;
   trail = g.trail ∙ h.trail;
+  bits = g.bits ∙ h.bits;
+  steps = g.steps ∙ h.steps;
   undoes = λ before base t. g.undoes before base (h.undoes before base t);
 }
 
@@ -80,5 +82,7 @@ module _ (k k₁ k₂ : Knowledge) (kept : Kept k k₁) (undone : Undone k₁ k.
     rep = undone.rep ∙ kept.rep;
     value = undone.value ∙ kept.value;
     trail = undone.trail ∙ kept.trail;
+    bits = undone.bits ∙ kept.bits;
+    steps = ap length undone.room ∙ kept.steps;
     undoes = λ before base h. undone.undoes before base h.low entry.low (kept.undoes before base h);
   }

@@ -54,13 +54,20 @@ pub record Kept (k k' : Knowledge) : Type 0 where
   pub rep : k'.rep ≡ k.rep
   pub value : k'.value.ghost_name ≡ k.value.ghost_name
   pub trail : k'.trail.ghost_name ≡ k.trail.ghost_name
+  pub bits : length k'.value.now ≡ length k.value.now
+  pub steps : length k'.trail.now ≡ length k.trail.now
   pub undoes : (before : List ℕ) (base : ℕ) → Since before base k → Since before base k'
+
+-- by the trail the bits are taken back from depth to base
+abbrev pub TakenBack : List ℕ → List ℕ → ℕ → ℕ → List ℕ → Type 0
+TakenBack value trail base depth value' = (before : List ℕ) (b : ℕ) → b ≤ base → base ≤ depth → Trailed before value trail b depth → Trailed before value' trail b base
 
 -- taken back to base
 pub record Undone (k : Knowledge) (base : ℕ) (k' : Knowledge) : Type 0 where
   pub rep : k'.rep ≡ k.rep
   pub value : k'.value.ghost_name ≡ k.value.ghost_name
   pub trail : k'.trail.ghost_name ≡ k.trail.ghost_name
+  pub bits : length k'.value.now ≡ length k.value.now
   pub room : k'.trail.now ≡ k.trail.now
   pub depth : base ≤ k.depth → k'.depth ≡ base
   pub undoes : (before : List ℕ) (b : ℕ) → b ≤ base → base ≤ k.depth → Since before b k → Since before b k'

@@ -5,6 +5,7 @@ use crate::bits::{Bit, UNKNOWN, resolve};
 use crate::literal::Literal;
 use crate::stack::Full;
 use crate::stop::Stop;
+use crate::trail::take_back;
 
 /// What is known of the bits.
 #[derive(Drop)]
@@ -107,12 +108,7 @@ impl<'a> Known<'a> {
     pub fn undo(&mut self, base: usize)
         ensures { Undone self.old base self.new }
     {
-        for d in (base..self.depth).rev() {
-            let q = self.trail[d] as usize;
-            if q < self.value.len() {
-                self.value[q] = UNKNOWN;
-            }
-        }
+        take_back(&self.trail, self.value, base, self.depth);
         self.depth = self.depth.min(base);
     }
 

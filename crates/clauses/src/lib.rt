@@ -1,6 +1,6 @@
 //! Clauses over bits in lent numbers, what is known of the bits, and the one rule by which a clause follows from others by hints.
-// Read lists (lists in lent numbers), literal, premises, stack (a stack in lent room), stop (how a step ends early), bits (what is known of a position), known
-// (assume and undo), look (what a clause says), hints (the rule), lemmas (premises added by it).
+// Read lists (lists in lent numbers), literal, premises, stack (a stack in lent room), stop (how a step ends early), bits (what is known of a position), trail
+// (what was assumed, taken back), known (assume and undo), look (what a clause says), hints (the rule), lemmas (premises added by it).
 //
 // A use: the premises stand at starts[..count]. Assume what is known, add the lemmas that stand at `at`, then show each goal by the hints that follow:
 //
@@ -25,3 +25,4 @@ pub mod look;
 pub mod premises;
 pub mod stack;
 pub mod stop;
+pub mod trail;
