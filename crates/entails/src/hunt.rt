@@ -62,7 +62,8 @@ pub fn hunt(
     ensures less { work.new.left ≤ work.old.left }
     ensures lack { IfErr result (λ lack. ShortOf search.new work.new.left lack) }
 {
-    search.push(0)?;
+    // The lemmas' number is written at the end: till then the room is as it was lent.
+    search.skip()?;
     let found = turns(search, &mut Tries::new(value, trail, reason), work);
     search.numbers[search.at] = (search.count - search.given) as u64;
     found

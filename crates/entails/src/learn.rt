@@ -1,5 +1,6 @@
 // What a conflict rests on, written as a lemma with its hints.
-ghost use Rattle.std.specs.Prelude.{◌≡◌, ℕ, ◌≤◌, length, OnErr, IfErr};
+ghost use Rattle.std.specs.Prelude.{◌≡◌, ℕ, ◌+◌, ◌-◌, ◌<◌, ◌≤◌, length, slice_index, OnOk, IfErr};
+ghost use Rattle.clauses.specs.Clauses.{Stands, clause_at};
 ghost use Rattle.entails.specs.Searches.{Learned, ShortOf};
 
 use crate::Lack;
@@ -7,7 +8,7 @@ use crate::hunt::Found;
 use crate::propagate::Tries;
 use crate::reason::Reason;
 use crate::search::Search;
-use budget::{Exhausted, Work};
+use budget::Work;
 use clauses::bits::UNKNOWN;
 use clauses::known::Known;
 use clauses::literal::Literal;
@@ -16,22 +17,30 @@ use clauses::premises::Premises;
 // In lent room, so a number: a bit that the conflict rests on is marked by 4 more, as all bits are forgotten after it.
 const MARK: u64 = 4;
 
-// Marks the bits of premise c, if it is there.
-fn mark(premises: &Premises, known: &mut Known, c: usize, work: &mut Work) -> Result<(), Exhausted>
+// Marks the bits of the clause at start c. Where that is too dear, or none stands, all work is used up and nothing is marked. For a start that is not there
+// nothing is charged.
+fn mark(premises: &Premises, known: &mut Known, c: usize, work: &mut Work)
+    ensures absent { length premises.now.starts.now ≤ c → work.new.left ≡ work.old.left }
+    ensures none { c < length premises.now.starts.now → (Stands premises.now.numbers.now (slice_index premises.now.starts.now c) → ⊥) → work.new.left ≡ 0 }
+    ensures price { c < length premises.now.starts.now → let clause = clause_at premises.now.numbers.now (slice_index premises.now.starts.now c) in Stands premises.now.numbers.now (slice_index premises.now.starts.now c) → length clause < premises.now.most → work.new.left ≡ work.old.left - (length clause + 1) }
     ensures less { work.new.left ≤ work.old.left }
-    ensures worn { OnErr result (work.new.left ≡ 0) }
 {
-    let Some(clause) = premises.get(c) else {
-        return Ok(());
+    let Some(s) = premises.starts.get(c) else {
+        return;
     };
-    work.spend(clause.len() as u64 + 1)?;
+    let Some(clause) = premises.clause(*s as usize) else {
+        work.left = 0;
+        return;
+    };
+    if work.spend(clause.len() as u64 + 1).is_err() {
+        return;
+    }
     for l in clause {
         let p = Literal::from(*l).position;
         if p < known.value.len() && known.value[p] < UNKNOWN {
             known.value[p] += MARK;
         }
     }
-    Ok(())
 }
 
 impl Tries<'_> {
@@ -45,33 +54,29 @@ impl Tries<'_> {
         Some(Reason::from(why))
     }
 
-    // Goes down the trail from a premise that is false: whether the conflict rests on a bit that was tried. What it does not rest on is idle.
-    fn trace(
-        &mut self,
-        premises: &Premises,
-        premise: usize,
-        work: &mut Work,
-    ) -> Result<bool, Exhausted>
-        ensures less { work.new.left ≤ work.old.left }
-        ensures worn { OnErr result (work.new.left ≡ 0) }
+    // Goes down the trail from a premise that is false: whether the conflict rests on a bit that was tried. What it does not rest on is idle. Where work runs
+    // out, it goes on to the end all the same, and marks nothing more.
+    fn trace(&mut self, premises: &Premises, premise: usize, work: &mut Work) -> bool
+        ensures { work.new.left ≤ work.old.left }
     {
-        mark(premises, &mut self.known, premise, work)?;
+        mark(premises, &mut self.known, premise, work);
         let mut tried = false;
         // By depth, down both rows, since one is written.
         for d in (0..self.reason.len).rev() {
             match self.rests_on(d) {
                 None => self.reason.set(d, Reason::Idle.into()),
                 Some(Reason::Tried) => tried = true,
-                Some(Reason::Forced(c)) => mark(premises, &mut self.known, c, work)?,
+                Some(Reason::Forced(c)) => mark(premises, &mut self.known, c, work),
                 Some(Reason::Denied | Reason::Idle) => {}
             }
         }
-        Ok(tried)
+        tried
     }
 
     // Of the bits that were tried and denied, one is not so.
     fn write_clause(&self, search: &mut Search) -> Result<(), Lack>
         ensures learned { Learned search.old search.new }
+        ensures left { OnOk result (search.new.used < length search.new.numbers.now) }
         ensures full { IfErr result (λ lack. (lack ≡ Lack.Numbers) × (search.new.used ≡ length search.new.numbers.now)) }
         ensures lemmas { search.new.count ≡ search.old.count }
     {
@@ -91,6 +96,7 @@ impl Tries<'_> {
     // The premises that forced what is on the trail, and the one that is false, as hints.
     fn write_hints(&self, search: &mut Search, premise: usize) -> Result<(), Lack>
         ensures learned { Learned search.old search.new }
+        ensures left { OnOk result (search.new.used < length search.new.numbers.now) }
         ensures full { IfErr result (λ lack. (lack ≡ Lack.Numbers) × (search.new.used ≡ length search.new.numbers.now)) }
         ensures lemmas { search.new.count ≡ search.old.count }
     {
@@ -111,15 +117,19 @@ pub fn learn(
     work: &mut Work,
 ) -> Result<Option<Found>, Lack>
     ensures learned { Learned search.old search.new }
+    ensures left { OnOk result (search.new.used < length search.new.numbers.now) }
     ensures less { work.new.left ≤ work.old.left }
     ensures lack { IfErr result (λ lack. ShortOf search.new work.new.left lack) }
 {
     let count = search.count;
-    if !tries.trace(&search.first(count), premise, work)? {
+    // All starts that were lent: for a goal that holds of all bits the number is that of the first behind premises and lemmas. Where the room has one more, it is
+    // looked at as it was lent: a clause that stands there is charged and marked like a premise, and where none stands all work is used up.
+    let starts = search.starts.len();
+    if !tries.trace(&search.first(starts), premise, work) {
         tries.write_hints(search, premise)?;
         return Ok(Some(Found::Shown));
     }
-    if count == search.starts.len() {
+    if count == starts {
         return Err(Lack::Starts);
     }
     let at = search.used;

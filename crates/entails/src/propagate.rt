@@ -44,7 +44,8 @@ impl<'a> Tries<'a> {
     // Goes once over the premises: the one that is false, if one is.
     fn pass(&mut self, premises: &Premises, work: &mut Work) -> Result<Option<usize>, Stop>
         requires { 0 < premises.now.most }
-        ensures { work.new.left ≤ work.old.left }
+        ensures premise { (c : ℕ) → result ≡ Ok (Some c) → c < length premises.now.starts.now }
+        ensures less { work.new.left ≤ work.old.left }
     {
         // By number: the reason names the premise.
         for c in 0..premises.starts.len() {
@@ -91,7 +92,8 @@ impl<'a> Tries<'a> {
     // From what is known on: the premise that is false, or none if no premise is open.
     fn go_on(&mut self, premises: &Premises, work: &mut Work) -> Result<Option<usize>, Stop>
         requires { 0 < premises.now.most }
-        ensures { work.new.left ≤ work.old.left }
+        ensures premise { (c : ℕ) → result ≡ Ok (Some c) → c < length premises.now.starts.now }
+        ensures less { work.new.left ≤ work.old.left }
     {
         loop {
             work.spend(1)?;
@@ -118,15 +120,19 @@ impl<'a> Tries<'a> {
         work: &mut Work,
     ) -> Result<Option<usize>, Stop>
         requires { (Stands premises.now.numbers.now goal) × (0 < premises.now.most) }
-        ensures { work.new.left ≤ work.old.left }
+        ensures bare { result ≡ Ok (Some (length premises.now.starts.now)) → self.new.reason.len ≡ 0 }
+        ensures less { work.new.left ≤ work.old.left }
     {
         self.known.forget();
         self.reason.clear();
         let denied = self.known.deny(list_at(premises.numbers, goal).unwrap());
         self.note(Reason::Denied);
         match denied {
-            // The goal holds of all bits. No premise is needed, and one that is not there has no effect as a hint.
-            Err(Stop::Conflict) => Ok(Some(premises.starts.len())),
+            // The goal holds of all bits. No premise is needed, and one that is not there has no effect as a hint. No bit is, either, so that no reason is left.
+            Err(Stop::Conflict) => {
+                self.reason.clear();
+                Ok(Some(premises.starts.len()))
+            }
             Err(stop) => Err(stop),
             Ok(()) => self.go_on(premises, work),
         }

@@ -1,5 +1,5 @@
 // A question while an answer is looked for: lemmas are written behind what stands.
-ghost use Rattle.std.specs.Prelude.{◌≡◌, ℕ, ◌+◌, ◌<◌, ◌≤◌, length, take, OnOk, IfErr};
+ghost use Rattle.std.specs.Prelude.{◌≡◌, ℕ, ◌+◌, ◌<◌, ◌≤◌, length, take, slice_index, OnOk, OnErr, IfErr};
 ghost use Rattle.std.specs.Iterator.{IsFinite};
 ghost use Rattle.entails.specs.Layouts.{Below};
 
@@ -28,9 +28,9 @@ pub struct Search<'a> {
 impl<'a> Search<'a> {
     ghost use Rattle.entails.specs.Searches.{Learned};
 
-    /// The first n of premises and lemmas.
+    /// The clauses at the first n starts: of premises and lemmas, and behind these what was lent.
     pub fn first(&self, n: usize) -> Premises
-        requires { n ≤ self.now.count }
+        requires { n ≤ length self.now.starts.now }
         ensures numbers { result.numbers.now ≡ self.now.numbers.now }
         ensures starts { result.starts.now ≡ take n self.now.starts.now }
         ensures most { result.most ≡ u64.MAX }
@@ -42,35 +42,67 @@ impl<'a> Search<'a> {
         }
     }
 
-    /// One more number.
-    pub fn push(&mut self, x: u64) -> Result<(), Lack>
+    /// Goes past one number, which stays as it was lent.
+    pub fn skip(&mut self) -> Result<(), Lack>
         ensures learned { Learned self.old self.new }
+        ensures same { self.new.numbers ≡ self.old.numbers }
         ensures more { OnOk result (self.new.used ≡ self.old.used + 1) }
+        ensures stays { OnErr result (self.new ≡ self.old) }
         ensures full { IfErr result (λ lack. (lack ≡ Lack.Numbers) × (self.new.used ≡ length self.new.numbers.now)) }
         ensures lemmas { self.new.count ≡ self.old.count }
     {
         if self.used >= self.numbers.len() {
             return Err(Lack::Numbers);
         }
-        self.numbers[self.used] = x;
         self.used += 1;
         Ok(())
     }
 
-    /// A list: its length, and then so many numbers.
-    pub fn push_list<I: Iterator<Item = u64> + Drop>(&mut self, items: I) -> Result<(), Lack>
+    /// One more number.
+    pub fn push(&mut self, x: u64) -> Result<(), Lack>
+        ensures learned { Learned self.old self.new }
+        ensures more { OnOk result (self.new.used ≡ self.old.used + 1) }
+        ensures stays { OnErr result (self.new ≡ self.old) }
+        ensures full { IfErr result (λ lack. (lack ≡ Lack.Numbers) × (self.new.used ≡ length self.new.numbers.now)) }
+        ensures lemmas { self.new.count ≡ self.old.count }
+    {
+        let at = self.used;
+        self.skip()?;
+        self.numbers[at] = x;
+        Ok(())
+    }
+
+    // One number after the other, as far as there is room.
+    fn push_all<I: Iterator<Item = u64> + Drop>(&mut self, items: I) -> Result<(), Lack>
         requires { I.can_next items × IsFinite (I.remaining items) }
         ensures learned { Learned self.old self.new }
         ensures full { IfErr result (λ lack. (lack ≡ Lack.Numbers) × (self.new.used ≡ length self.new.numbers.now)) }
         ensures lemmas { self.new.count ≡ self.old.count }
     {
-        let at = self.used;
-        self.push(0)?;
         for x in items {
             self.push(x)?;
         }
-        self.numbers[at] = (self.used - at - 1) as u64;
         Ok(())
+    }
+
+    /// A list: its length, and then so many numbers. Where the room ends before all are in, those that are in are counted. Room that ends with the last is too
+    /// little, too.
+    pub fn push_list<I: Iterator<Item = u64> + Drop>(&mut self, items: I) -> Result<(), Lack>
+        requires { I.can_next items × IsFinite (I.remaining items) }
+        ensures learned { Learned self.old self.new }
+        ensures counted { self.old.used < length self.old.numbers.now → self.new.used ≡ self.old.used + 1 + slice_index self.new.numbers.now self.old.used }
+        ensures left { OnOk result (self.new.used < length self.new.numbers.now) }
+        ensures full { IfErr result (λ lack. (lack ≡ Lack.Numbers) × (self.new.used ≡ length self.new.numbers.now)) }
+        ensures lemmas { self.new.count ≡ self.old.count }
+    {
+        let at = self.used;
+        self.push(0)?;
+        let end = self.push_all(items);
+        self.numbers[at] = (self.used - at - 1) as u64;
+        if self.used == self.numbers.len() {
+            return Err(Lack::Numbers);
+        }
+        end
     }
 
     /// One more lemma, which stands at s.

@@ -121,3 +121,30 @@ fn bits_that_refute(rt: HostRuntime) {
     assert_eq!(rt; value[0], 0);
     assert_eq!(rt; value[1], 1);
 }
+
+// Of a goal that holds of all bits, in numbers that are lent: behind it come the lemmas' number, the hints' length and a hint.
+fn holds_of_all(numbers: &mut [u64]) -> Outcome {
+    fill(numbers, &[2, 0, 1]);
+    let mut question = Question {
+        numbers,
+        used: 3,
+        starts: &mut [],
+        count: 0,
+        goal: 0,
+    };
+    let mut room = Room {
+        value: &mut [2],
+        trail: &mut [0],
+        reason: &mut [0],
+    };
+    follows(&mut question, &mut room, 100).outcome
+}
+
+#[test]
+fn numbers_filled_to_the_last(rt: HostRuntime) {
+    assert_eq!(rt; holds_of_all(&mut [0; 7]), Outcome::Yes);
+    assert_eq!(rt;
+        holds_of_all(&mut [0; 6]),
+        Outcome::Exhausted(Lack::Numbers)
+    );
+}
