@@ -11,7 +11,7 @@ use Rattle.machine.specs.Ready.{starts_from}
 use Rattle.machine.specs.Row.{headers, part}
 use Rattle.machine.specs.Sound.{Proper}
 use Rattle.machine.specs.Window.{window, Written, Wrote}
-use Rattle.machine.specs.Sink.{SinkLaws, Left, wanted, Handed}
+use Rattle.machine.specs.Sink.{SinkLaws, Left, wanted, Poured}
 use Rattle.machine.specs.declared.want.Want.{Want}
 use Rattle.machine.proofs.Exprs.{header_long, header_part, slice_long, slice_part}
 use Rattle.machine.proofs.Windows.{inside, left_over, used, window_is, window_join}
@@ -56,9 +56,9 @@ module _ (a b : List ℕ) (w : Want) where
     pub first_refused : (s : S) → Refuses s (wanted a w) → Refuses s (wanted (a ++ b) w)
     first_refused s refused = subst (Refuses s) (sym front) (laws.refuses_first s _ _ refused)
 
-    pub then_handed : (s t u : S) {x : Want} (r : Option Want) → Left a w x → Took s t (wanted a w) → Handed Took Refuses b x t u r → Handed Took Refuses (a ++ b) w s u r
-    then_handed s t u None left took refused = subst (Refuses s) (sym (both left)) (laws.refuses_second s t _ _ took refused)
-    then_handed s t u (Some y) left took more = (left_both left more.0, subst (Took s u) (sym (both left)) (laws.joins s t u _ _ took more.1))
+    pub then_poured : (s t u : S) {x : Want} (y : Want) (r : Option (Unit {0})) → Left a w x → Took s t (wanted a w) → Poured Took Refuses b x y t u r → Poured Took Refuses (a ++ b) w y s u r
+    then_poured s t u y None left took refused = subst (Refuses s) (sym (both left)) (laws.refuses_second s t _ _ took refused)
+    then_poured s t u y (Some _) left took more = (left_both left more.0, subst (Took s u) (sym (both left)) (laws.joins s t u _ _ took more.1))
 
 -- bits that a row as long was held to
 pub held_whole : (v bs rest : List ℕ) {w : Want} → length v ≡ length bs → w.skip ≡ 0 → w.most ≡ length bs → bs ≡ wanted v w ++ rest → v ≡ bs

@@ -28,3 +28,7 @@ pub record Left (v : List ℕ) (w x : Want) : Type 0 where
 -- what is wanted of v was handed on: it was taken, or refused
 abbrev pub Handed : {S : Type 0} → (S → S → List ℕ → Type 0) → (S → List ℕ → Type 0) → List ℕ → Want → S → S → Option Want → Type 0
 Handed Took Refuses v w s t r = MatchOption r (Refuses s (wanted v w)) (λ x. Left v w x × Took s t (wanted v w))
+
+-- the same, where x is what is still wanted afterwards
+abbrev pub Poured : {S : Type 0} → (S → S → List ℕ → Type 0) → (S → List ℕ → Type 0) → List ℕ → Want → Want → S → S → Option (Unit {0}) → Type 0
+Poured Took Refuses v w x s t r = MatchOption r (Refuses s (wanted v w)) (λ _. Left v w x × Took s t (wanted v w))
